@@ -1,0 +1,7 @@
+-- Laws of the shared definitions, each file named by what it is about.
+pub mod Choice
+pub mod Tests
+pub mod Over
+pub mod Part
+pub mod Front
+pub mod OneOutcome

@@ -1,0 +1,20 @@
+-- Tests that are joined by `&` and `|`.
+use mathlib.Core.Path.{_≡_, refl, sym}
+use mathlib.Core.Logic.{_⊎_, inl, inr}
+use mathlib.Core.Bool.{Bool, true, false, _&&_, _||_, true≢false}
+
+pub never {ℓ} : {X : Type ℓ} → false ≡ true → X
+never h = absurd (true≢false (sym h))
+
+pub both : (a b : Bool) → (a && b) ≡ true → (a ≡ true) × (b ≡ true)
+both true b h = (refl, h)
+both false b h = never h
+
+pub either : {P : Type 0} (a b : Bool) → (a || b) ≡ true → (a ≡ true → P) → (b ≡ true → P) → P
+either true b h f g = f refl
+either false b h f g = g h
+
+pub one-of : (a b : Bool) → (a ≡ true) ⊎ (b ≡ true) → (a || b) ≡ true
+one-of true b h = refl
+one-of false b (inl e) = never e
+one-of false b (inr e) = e

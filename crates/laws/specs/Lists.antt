@@ -1,0 +1,13 @@
+-- Parts of a list, and a list that is written from a place on.
+use Prim.Native.Nat.{ℕ, _+_}
+use mathlib.Core.List.{List, _++_}
+use lib.ListN.{length, take, drop}
+
+module _ {A : Type 0} where
+  -- n elements of l from a place on
+  unfoldable pub part : List A → ℕ → ℕ → List A
+  part l at n = take n (drop at l)
+
+  -- l with xs in place of as many elements from a place on
+  unfoldable pub over : List A → ℕ → List A → List A
+  over l at xs = take at l ++ xs ++ drop (at + length xs) l

@@ -1,0 +1,21 @@
+use mathlib.Core.Path.{sym, _∙_}
+use Rattle.laws.proofs.Choice.{pick-yes, pick-no}
+use Rattle.rect.specs.Shared.{greaterOf}
+use Rattle.rect.proofs.Moved.{moved, tested}
+use Rattle.rect.proofs.intersection.greater.Statement.{statement}
+use Rattle.rect.proofs.intersection.greater.Tie as tie
+
+returns : tie.Need-returns
+unfolding greaterOf
+returns c =
+    let s = c .before in
+    moved (s .args .b) (s .fits .b) ∙ sym (pick-yes _ _ _ (tested (s .args .a) (s .args .b) (s .fits .a) (s .fits .b) (c .if1 .taken)))
+
+returns-2 : tie.Need-returns-2
+unfolding greaterOf
+returns-2 c =
+    let s = c .before in
+    moved (s .args .a) (s .fits .a) ∙ sym (pick-no _ _ _ (tested (s .args .a) (s .args .b) (s .fits .a) (s .fits .b) (c .if1 .left)))
+
+pub greater-spec : {M : Type 1} → statement M
+greater-spec = tie.close (tie.spec returns returns-2)

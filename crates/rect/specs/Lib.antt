@@ -1,0 +1,3 @@
+pub mod Rect
+pub mod Rows
+pub mod Shared
