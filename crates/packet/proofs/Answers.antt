@@ -1,0 +1,90 @@
+-- The answers: each is told by its paper alone, so a contract leaves one outcome for every input.
+use mathlib.Core.Path.{_≡_, refl, sym, ap, _∙_}
+use mathlib.Core.List.{List}
+use Prim.Native.Nat.{ℕ, _≤_}
+use borrow.Author.Tests.{le-ltb}
+use lib.Dec.{eqb}
+use lib.ListN.{length}
+use Rattle.laws.specs.Choice.{pick}
+use Rattle.packet.specs.Stream.{Outcome, bytes, refused, meaning}
+use Rattle.packet.specs.Reading.{Paper, paper, result, verdict, laid, unpacked, planeRead}
+use Rattle.packet.specs.declared.PlaneAnswer.{PlaneAnswer}
+use Rattle.packet.specs.declared.PlaneAnswer.the-variants.{Whole, NoRoom, Count128, Missing, TooMuch, UnknownCode, RawLength, OverLimit, Outside}
+use Rattle.packet.specs.declared.PackAnswer.{PackAnswer}
+use Rattle.packet.specs.declared.PackAnswer.the-variants as Pack
+use Rattle.packet.specs.declared.PackAnswer.the-variants.{Packed}
+use Rattle.packet.specs.Packing.{PackPaper, packPaper, packResult, packs}
+use Rattle.laws.proofs.Choice.{pick-no}
+use Rattle.laws.proofs.OneOutcome.{answer-one, result-one}
+
+-- the answer that a paper tells of
+answerOf : Paper → PlaneAnswer
+answerOf p =
+    pick (eqb (p .number) 0) (Whole (p .place) (p .bytes))
+    (pick (eqb (p .number) 20) NoRoom
+    (pick (eqb (p .number) 21) (Count128 (p .place))
+    (pick (eqb (p .number) 22) (Missing (p .place))
+    (pick (eqb (p .number) 23) (TooMuch (p .place))
+    (pick (eqb (p .number) 24) UnknownCode
+    (pick (eqb (p .number) 25) RawLength
+    (pick (eqb (p .number) 26) OverLimit
+    Outside)))))))
+
+answer-back : (a : PlaneAnswer) → answerOf (paper a) ≡ a
+unfolding answerOf pick
+answer-back (Whole stored plane) = refl
+answer-back NoRoom = refl
+answer-back (Count128 place) = refl
+answer-back (Missing place) = refl
+answer-back (TooMuch place) = refl
+answer-back UnknownCode = refl
+answer-back RawLength = refl
+answer-back OverLimit = refl
+answer-back Outside = refl
+
+packAnswerOf : PackPaper → PackAnswer
+packAnswerOf p = pick (eqb (p .number) 0) (Packed (p .length)) (pick (eqb (p .number) 30) Pack.NoRoom Pack.OverLimit)
+
+pack-answer-back : (a : PackAnswer) → packAnswerOf (packPaper a) ≡ a
+unfolding packAnswerOf pick
+pack-answer-back (Packed n) = refl
+pack-answer-back Pack.NoRoom = refl
+pack-answer-back Pack.OverLimit = refl
+
+pub unpack-one :
+    (stream : List ℕ) (plane : ℕ) (dest : List ℕ) (a b : PlaneAnswer) (x y : List ℕ)
+    → result a x ≡ unpacked stream plane dest → result b y ≡ unpacked stream plane dest → (a ≡ b) × (x ≡ y)
+unpack-one stream plane dest = result-one paper answerOf answer-back (unpacked stream plane dest)
+
+pub read-plane-one :
+    (input : List ℕ) (start stored plane code : ℕ) (dest : List ℕ) (a b : PlaneAnswer) (x y : List ℕ)
+    → result a x ≡ planeRead input start stored plane code dest → result b y ≡ planeRead input start stored plane code dest → (a ≡ b) × (x ≡ y)
+read-plane-one input start stored plane code dest = result-one paper answerOf answer-back (planeRead input start stored plane code dest)
+
+pub pack-one :
+    (plane dest : List ℕ) (a b : PackAnswer) (x y : List ℕ)
+    → packResult a x ≡ packs plane dest → packResult b y ≡ packs plane dest → (a ≡ b) × (x ≡ y)
+pack-one plane dest = result-one packPaper packAnswerOf pack-answer-back (packs plane dest)
+
+-- an answer that is not the whole plane leaves the destination as it was
+left-alone :
+    (a : PlaneAnswer) (stored plane : ℕ) (dest : List ℕ) (o : Outcome) → ((m n : ℕ) → a ≡ Whole m n → ⊥)
+    → paper a ≡ verdict stored plane o → dest ≡ laid plane dest o
+left-alone a stored plane dest (bytes xs) other e = absurd (other stored plane (answer-one paper answerOf answer-back a (Whole stored plane) e))
+left-alone a stored plane dest (refused number place) other e = refl
+
+-- what the two passes leave is what the definition says
+pub unpacked-is :
+    (stream : List ℕ) (plane : ℕ) (dest : List ℕ) (a : PlaneAnswer) (after : List ℕ) → plane ≤ length dest
+    → paper a ≡ verdict (length stream) plane (meaning stream plane) → after ≡ laid plane dest (meaning stream plane)
+    → result a after ≡ unpacked stream plane dest
+unfolding unpacked
+unpacked-is stream plane dest a after h e f =
+    _∙_ {b = record { told = verdict (length stream) plane (meaning stream plane); dest = laid plane dest (meaning stream plane) }}
+    (λ i. record { told = e i; dest = f i }) (sym (pick-no _ _ _ (le-ltb (length dest) plane h)))
+
+pub unpacked-refused :
+    (stream : List ℕ) (plane : ℕ) (dest : List ℕ) (a : PlaneAnswer) → plane ≤ length dest → ((m n : ℕ) → a ≡ Whole m n → ⊥)
+    → paper a ≡ verdict (length stream) plane (meaning stream plane) → result a dest ≡ unpacked stream plane dest
+unpacked-refused stream plane dest a h other e =
+    unpacked-is stream plane dest a dest h e (left-alone a (length stream) plane dest (meaning stream plane) other e)

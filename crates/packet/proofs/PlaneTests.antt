@@ -1,0 +1,74 @@
+-- The plane reader's answers, each by the tests that lead to it.
+use mathlib.Core.Path.{_≡_, _∙_}
+use mathlib.Core.List.{List, _++_}
+use Prim.Native.Nat.{ℕ, _+_, _<_, _≤_}
+use borrow.Author.Tests.{lt-ltb, le-ltb, eq-eqb, ne-eqb}
+use lib.Dec.{eqb, ltb}
+use lib.ListN.{length, drop}
+use Rattle.laws.specs.Choice.{pick}
+use Rattle.laws.specs.Lists.{part, over}
+use Rattle.laws.specs.Results.{Result}
+use Rattle.packet.specs.Reading.{Paper, untouched, filled, unpacked, planeRead}
+use Rattle.limits.specs.Limits.{planeLimit}
+use Rattle.laws.proofs.Choice.{pick-yes, pick-no}
+use Rattle.laws.proofs.Part.{part-length}
+use Rattle.laws.proofs.Over.{over-front}
+
+module _ (input : List ℕ) (start stored plane code : ℕ) (dest : List ℕ) where
+  abbrev said : Result Paper
+  said = planeRead input start stored plane code dest
+
+  pub unknown-code : 1 < code → said ≡ untouched 24 dest
+  unfolding planeRead
+  unknown-code h = pick-yes _ _ _ (lt-ltb 1 code h)
+
+  module _ (known : code ≤ 1) where
+    pub over-limit : planeLimit < plane → said ≡ untouched 26 dest
+    unfolding planeRead
+    over-limit h = pick-no _ _ _ (le-ltb 1 code known) ∙ pick-yes _ _ _ (lt-ltb planeLimit plane h)
+
+    module _ (small : plane ≤ planeLimit) where
+      -- what is left of the definition behind the first two tests
+      sized :
+          said
+          ≡ pick (ltb (length input) (start + stored)) (untouched 27 dest)
+          (pick (ltb (length dest) plane) (untouched 20 dest)
+          (pick (eqb code 1) (unpacked (part input start stored) plane dest)
+          (pick (eqb stored plane) (filled stored plane (part input start stored) dest)
+          (untouched 25 dest))))
+      unfolding planeRead
+      sized = pick-no _ _ _ (le-ltb 1 code known) ∙ pick-no _ _ _ (le-ltb planeLimit plane small)
+
+      pub outside : length input < start + stored → said ≡ untouched 27 dest
+      outside h = sized ∙ pick-yes _ _ _ (lt-ltb (length input) (start + stored) h)
+
+      module _ (there : start + stored ≤ length input) where
+        pub no-room : length dest < plane → said ≡ untouched 20 dest
+        no-room h =
+            sized ∙ pick-no _ _ _ (le-ltb (length input) (start + stored) there) ∙ pick-yes _ _ _ (lt-ltb (length dest) plane h)
+
+        module _ (room : plane ≤ length dest) where
+          placed :
+              said
+              ≡ pick (eqb code 1) (unpacked (part input start stored) plane dest)
+              (pick (eqb stored plane) (filled stored plane (part input start stored) dest)
+              (untouched 25 dest))
+          placed =
+              sized
+              ∙ pick-no _ _ _ (le-ltb (length input) (start + stored) there)
+              ∙ pick-no _ _ _ (le-ltb (length dest) plane room)
+
+          pub packets : code ≡ 1 → said ≡ unpacked (part input start stored) plane dest
+          packets h = placed ∙ pick-yes _ _ _ (eq-eqb code 1 h)
+
+          pub raw : (code ≡ 1 → ⊥) → stored ≡ plane → said ≡ filled stored plane (part input start stored) dest
+          raw h e = placed ∙ pick-no _ _ _ (ne-eqb code 1 h) ∙ pick-yes _ _ _ (eq-eqb stored plane e)
+
+          pub raw-length : (code ≡ 1 → ⊥) → (stored ≡ plane → ⊥) → said ≡ untouched 25 dest
+          raw-length h n = placed ∙ pick-no _ _ _ (ne-eqb code 1 h) ∙ pick-no _ _ _ (ne-eqb stored plane n)
+
+-- the raw bytes copied to the front
+pub copied :
+    (input : List ℕ) (start stored plane : ℕ) (dest after : List ℕ) → start + stored ≤ length input → stored ≡ plane
+    → after ≡ over dest 0 (part input start stored) → after ≡ part input start stored ++ drop plane dest
+copied input start stored plane dest after h e f = f ∙ over-front dest (part input start stored) plane (part-length input start stored h ∙ e)
