@@ -15,7 +15,7 @@ use Rattle.packet.specs.declared.PackAnswer.the-variants as Pack
 use Rattle.packet.specs.declared.PackAnswer.the-variants.{Packed}
 use Rattle.packet.specs.Packing.{PackPaper, packPaper, packResult, packs}
 use Rattle.laws.proofs.Choice.{pick-no}
-use Rattle.laws.proofs.OneOutcome.{answer-one, result-one}
+use Rattle.laws.proofs.OneOutcome.{result-one}
 
 -- the answer that a paper tells of
 answerOf : Paper → PlaneAnswer
@@ -68,9 +68,9 @@ pack-one plane dest = result-one packPaper packAnswerOf pack-answer-back (packs 
 
 -- an answer that is not the whole plane leaves the destination as it was
 left-alone :
-    (a : PlaneAnswer) (stored plane : ℕ) (dest : List ℕ) (o : Outcome) → ((m n : ℕ) → a ≡ Whole m n → ⊥)
+    (a : PlaneAnswer) (stored plane : ℕ) (dest : List ℕ) (o : Outcome) → (paper a .number ≡ 0 → ⊥)
     → paper a ≡ verdict stored plane o → dest ≡ laid plane dest o
-left-alone a stored plane dest (bytes xs) other e = absurd (other stored plane (answer-one paper answerOf answer-back a (Whole stored plane) e))
+left-alone a stored plane dest (bytes xs) other e = absurd (other (ap (λ (p : Paper). p .number) e))
 left-alone a stored plane dest (refused number place) other e = refl
 
 -- what the two passes leave is what the definition says
@@ -84,7 +84,7 @@ unpacked-is stream plane dest a after h e f =
     (λ i. record { told = e i; dest = f i }) (sym (pick-no _ _ _ (le-ltb (length dest) plane h)))
 
 pub unpacked-refused :
-    (stream : List ℕ) (plane : ℕ) (dest : List ℕ) (a : PlaneAnswer) → plane ≤ length dest → ((m n : ℕ) → a ≡ Whole m n → ⊥)
+    (stream : List ℕ) (plane : ℕ) (dest : List ℕ) (a : PlaneAnswer) → plane ≤ length dest → (paper a .number ≡ 0 → ⊥)
     → paper a ≡ verdict (length stream) plane (meaning stream plane) → result a dest ≡ unpacked stream plane dest
 unpacked-refused stream plane dest a h other e =
     unpacked-is stream plane dest a dest h e (left-alone a (length stream) plane dest (meaning stream plane) other e)

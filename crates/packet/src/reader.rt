@@ -81,13 +81,8 @@ pub fn unpack(stream: &[u8], dest: &mut [u8], plane: usize) -> PlaneAnswer
         return PlaneAnswer::NoRoom;
     }
     let answer = test(stream, plane);
-    let PlaneAnswer::Whole {
-        stored: _,
-        plane: _,
-    } = answer
-    else {
-        return answer;
-    };
-    write(stream, dest, plane);
+    if answer.number() == 0 {
+        write(stream, dest, plane);
+    }
     answer
 }
