@@ -1,5 +1,5 @@
 -- What is known of a choice by a test.
-use mathlib.Core.Path.{_≡_, refl, ap}
+use mathlib.Core.Path.{_≡_, refl, ap, subst}
 use mathlib.Core.Bool.{Bool, true, false}
 use Rattle.laws.specs.Choice.{pick}
 
@@ -12,8 +12,26 @@ module _ {ℓ} {A : Type ℓ} where
   unfolding pick
   pick-no b x y h = ap (λ (c : Bool). pick c x y) h
 
+  pub pick-map {κ} : {B : Type κ} (f : A → B) (b : Bool) (x y : A) → f (pick b x y) ≡ pick b (f x) (f y)
+  unfolding pick
+  pick-map f true x y = refl
+  pick-map f false x y = refl
+
   -- what holds of both answers, each under its test, holds of the choice
   pub pick-ind : (P : A → Type 0) (b : Bool) (x y : A) → (b ≡ true → P x) → (b ≡ false → P y) → P (pick b x y)
   unfolding pick
   pick-ind P true x y f g = f refl
   pick-ind P false x y f g = g refl
+
+  -- a relation between two choices by one test
+  pub pick-ind₂ :
+      (P : A → A → Type 0) (b : Bool) (x y x' y' : A) → (b ≡ true → P x x') → (b ≡ false → P y y') → P (pick b x y) (pick b x' y')
+  unfolding pick
+  pick-ind₂ P true x y x' y' f g = f refl
+  pick-ind₂ P false x y x' y' f g = g refl
+
+  -- and by two tests that have one value
+  pub pick-alike :
+      (P : A → A → Type 0) (b b' : Bool) (x y x' y' : A) → b ≡ b'
+      → (b ≡ true → P x x') → (b ≡ false → P y y') → P (pick b x y) (pick b' x' y')
+  pick-alike P b b' x y x' y' e f g = subst (λ (c : Bool). P (pick b x y) (pick c x' y')) e (pick-ind₂ P b x y x' y' f g)

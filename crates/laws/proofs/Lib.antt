@@ -3,5 +3,9 @@ pub mod Choice
 pub mod Tests
 pub mod Over
 pub mod Part
+pub mod Written
+pub mod Stored
 pub mod Front
+pub mod All
+pub mod Along
 pub mod OneOutcome

@@ -1,10 +1,10 @@
 -- Parts of a list: what a function sees that is lent one, and what stands in it.
-use mathlib.Core.Path.{_≡_, ap, _∙_}
+use mathlib.Core.Path.{_≡_, ap, ap₂, _∙_}
 use mathlib.Core.List.{List, [], _++_, append-nil, append-assoc}
-use Prim.Native.Nat.{ℕ, _+_, _-_, _≤_}
+use Prim.Native.Nat.{ℕ, _+_, _-_, _≤_, _<_}
 use native.Mathlib.Omega.{arith}
-use lib.ListN.{length, take, drop, length-take, length-drop, drop-of-length-le}
-use lib.Seq.{take-take, drop-drop}
+use lib.ListN.{length, take, drop, getD, length-take, length-drop, drop-of-length-le}
+use lib.Seq.{take-all, take-take, drop-drop, drop-append-le, take-append-le, getD-take, getD-drop}
 use Rattle.laws.specs.Lists.{part, over}
 
 module _ {A : Type 0} where
@@ -32,3 +32,28 @@ module _ {A : Type 0} where
       let none : drop w (take w (drop a l)) ≡ [] = drop-of-length-le (take w (drop a l)) {i = w} (simp (length-take, length-drop) (omega arith)) in
       let whole : take w (take w (drop b p)) ≡ take w (drop b p) = take-take w w (drop b p) (omega arith) in
       simp (e, less, len, whole, none, append-nil, append-assoc, drop-drop)
+
+  -- `bytes::copy(&l[at..at + n], array)`, of an array of n elements: it holds the part
+  pub filled :
+      (l array : List A) (at n : ℕ) → at + n ≤ length l → length array ≡ n
+      → take (length (take (at + n - at) (drop at l))) (take (at + n - at) (drop at l)) ++ drop (length (take (at + n - at) (drop at l))) array ≡ part l at n
+  filled l array at n h e =
+      let none : drop n array ≡ [] = drop-of-length-le array {i = n} (omega arith) in
+      rw (lent l at n, part-length l at n h)
+      (ap₂ (λ (x y : List A). x ++ y) (take-all n (part l at n) (omega (arith, part-length l at n h))) none ∙ append-nil (part l at n))
+
+  -- ### Its elements
+
+  pub part-at : (l : List A) (at n i : ℕ) (d : A) → i < n → getD (part l at n) i d ≡ getD l (at + i) d
+  unfolding part
+  part-at l at n i d h = getD-take n (drop at l) i d h ∙ getD-drop at l i d
+
+  pub part-first : (l : List A) (at n : ℕ) (d : A) → 0 < n → getD (part l at n) 0 d ≡ getD l at d
+  part-first l at n d h = let here : at + 0 ≡ at = omega arith in part-at l at n 0 d h ∙ ap (λ (i : ℕ). getD l i d) here
+
+  -- ### Of a longer list
+
+  pub part-longer : (s t : List A) (at n : ℕ) → at + n ≤ length s → part (s ++ t) at n ≡ part s at n
+  unfolding part
+  part-longer s t at n h =
+      ap (take n) (drop-append-le at s t (omega arith)) ∙ take-append-le n (drop at s) t (omega (arith, length-drop at s))

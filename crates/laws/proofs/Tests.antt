@@ -1,5 +1,8 @@
--- Tests that are joined by `&` and `|`.
+-- Tests that are joined by `&` and `|`, and the test of two numbers.
 use mathlib.Core.Path.{_≡_, refl, sym}
+use Prim.Native.Nat.{ℕ, _<_, _≤_}
+use lib.Dec.{ltb}
+use borrow.Author.Tests.{ltb-true, ltb-false}
 use mathlib.Core.Logic.{_⊎_, inl, inr}
 use mathlib.Core.Bool.{Bool, true, false, _&&_, _||_, true≢false}
 
@@ -18,3 +21,10 @@ pub one-of : (a b : Bool) → (a ≡ true) ⊎ (b ≡ true) → (a || b) ≡ tru
 one-of true b h = refl
 one-of false b (inl e) = never e
 one-of false b (inr e) = e
+
+pub less-or-not : (m n : ℕ) → (m < n) ⊎ (n ≤ m)
+less-or-not m n = by (ltb m n) refl
+  where
+    by : (b : Bool) → ltb m n ≡ b → (m < n) ⊎ (n ≤ m)
+    by true h = inl (ltb-true m n h)
+    by false h = inr (ltb-false m n h)

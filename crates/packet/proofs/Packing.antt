@@ -19,7 +19,7 @@ use Rattle.packet.specs.declared.PackAnswer.the-variants.{Packed, NoRoom
 use Rattle.laws.proofs.Choice.{pick-yes, pick-no, pick-ind}
 use Rattle.laws.proofs.Part.{part-length}
 use Rattle.laws.proofs.Over.{over-cons}
-use Rattle.laws.proofs.Front.{Written, written-first, written-more, written-front, written-length, written-all}
+use Rattle.laws.proofs.Written.{Written, written-first, written-more, written-front, written-length, written-all}
 use Rattle.packet.proofs.Until.{head-at, until-go, Count, count}
 
 -- ---- the packet that is chosen

@@ -11,7 +11,7 @@ use Rattle.packet.specs.declared.Look.the-variants.{End, Next, Count128,
 use Rattle.packet.specs.Stream.{sizeOf, countOf, bytesOf, lookOf, Outcome, bytes, refused, join, meant, meaningFrom, meaning}
 use Rattle.packet.specs.Reading.{verdict, laid}
 use Rattle.packet.proofs.Stream.{Sound, ended, count-128, missing, too-much, next, sound, onward, meaning-stop, join-join, join-nothing}
-use Rattle.laws.proofs.Front.{Written, written-first, written-more, written-front, written-all}
+use Rattle.laws.proofs.Written.{Written, written-first, written-more, written-front, written-all}
 
 verdict-join : (stored plane : ℕ) (xs : List ℕ) (o : Outcome) → verdict stored plane (join xs o) ≡ verdict stored plane o
 verdict-join stored plane xs (bytes ys) = refl

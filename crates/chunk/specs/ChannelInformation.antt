@@ -1,0 +1,34 @@
+-- The channel information chunk (document 000, section 4.6) and its rule (document 01, "Channel, id 5").
+use Prim.Native.Nat.{ℕ}
+use mathlib.Core.List.{List, [], _∷_}
+use lib.Dec.{eqb, leb}
+use Rattle.number.specs.Number.{numberAt}
+use Rattle.laws.specs.Lists.{part}
+use Rattle.chunk.specs.declared.fault.Fault.{Fault}
+use Rattle.chunk.specs.declared.channel_information.ChannelChunk.{ChannelChunk}
+use Rattle.chunk.specs.Fault.{Field, field, earliest}
+
+-- the chunk of its own bytes
+unfoldable pub channelOf : List ℕ → ChannelChunk
+channelOf s = record {
+  stored = numberAt 4 s 0;
+  plane = numberAt 4 s 4;
+  bitmap = numberAt 2 s 8;
+  channel = numberAt 2 s 10;
+}
+
+abbrev pub channelAt : List ℕ → ℕ → ChannelChunk
+channelAt s at = channelOf (part s at 12)
+
+-- the codes come before the plane length
+abbrev pub codesFields : ChannelChunk → List Field
+codesFields c = field 8 (leb (c .bitmap) 5) ∷ field 10 (leb (c .channel) 3) ∷ []
+
+unfoldable pub codesFault : ChannelChunk → Fault
+codesFault c = earliest (codesFields c)
+
+abbrev pub planeFields : ℕ → ChannelChunk → List Field
+planeFields length c = field 4 (eqb (c .plane) length) ∷ []
+
+unfoldable pub planeFault : ℕ → ChannelChunk → Fault
+planeFault length c = earliest (planeFields length c)

@@ -1,0 +1,11 @@
+pub mod FileHeader
+pub mod BlockHeader
+pub mod Fault
+pub mod Depth
+pub mod Resolution
+pub mod Area
+pub mod ImageAttributes
+pub mod ColorPalette
+pub mod LayerInformation
+pub mod ChannelInformation
+pub mod Rules

@@ -1,0 +1,137 @@
+-- What is listed of a beginning of the input stands in the listing of the whole, and an answer that more input cannot change stands.
+use mathlib.Core.Path.{_≡_, refl, sym, ap, subst, _∙_}
+use mathlib.Core.List.{List, [], _∷_, _++_}
+use Prim.Native.Nat.{ℕ, zero, suc, _+_, _-_, _≤_, _<_}
+use native.Mathlib.Omega.{arith}
+use lib.ListN.{length, drop, length-append}
+use lib.Seq.{drop-length}
+use Rattle.laws.specs.Front.{Front, front, same}
+use Rattle.laws.proofs.Front.{front-refl, front-take}
+use Rattle.entry.specs.declared.Entry.{Entry}
+use Rattle.walk.specs.Walk.{Step, Stop, Leaf, Nest, Look, Listing, Rest, Go, ended, _◂_, follow, walk, run, enough}
+use Rattle.walk.specs.Owed.{Moves, ends, stops, leaf, nest, MovesOn, soon, last, Keeps, alike, unsure, KeepsOn, Rules}
+use Rattle.walk.specs.Owed.{Beyond, last-end, refused, leaf-past, nest-past, Awaits, AwaitsOn, Prompt}
+use Rattle.walk.specs.Promised.{Stands}
+use Rattle.walk.specs.Room.{Answer, cut}
+use Rattle.walk.proofs.Fuel.{run-fuel}
+use Rattle.walk.proofs.Cut.{cut-ended, cut-entries, cut-fits, cut-had-room, cut-larger}
+
+-- ### The listing without a room
+
+-- no entry, or a first one that owns bytes beyond the first len
+pub data Late (len : ℕ) : List Entry → Type 0 where
+  nothing : Late len []
+  past : {e : Entry} {es : List Entry} → len < e .place + e .owned → Late len (e ∷ es)
+
+-- of a beginning of len bytes, and of the whole; the entries that only the whole has are late, if the rules are prompt
+pub record Later {S : Type 0} (prompt : Type 0) (len : ℕ) (w w' : Listing S) : Type 0 where
+  pub entries : Front (w .entries) (w' .entries)
+  pub settled : (w .number ≡ 0 → ⊥) → (w .number ≡ 2 → ⊥) → w ≡ w'
+  pub late : prompt → Late len (drop (length (w .entries)) (w' .entries))
+
+module _ {S : Type 0} (prompt : Type 0) (main len len' : ℕ) (nested : 0 < main) where
+  later-refl : (w : Listing S) → Later prompt len w w
+  later-refl w = record {
+    entries = front-refl (w .entries);
+    settled = λ _ _. refl;
+    late = λ _. subst (Late len) (sym (drop-length (w .entries))) nothing;
+  }
+
+  step-later : {w w' : Listing S} (e : Entry) → Later prompt len w w' → Later prompt len (e ◂ w) (e ◂ w')
+  step-later e l = record { entries = same (l .entries); settled = λ a b. ap (e ◂_) (l .settled a b); late = l .late }
+
+  -- what the main level's end is: accepted, with nothing after it
+  abbrev Top : ℕ → Rest S → Type 0
+  Top levels rest = levels ≡ main → (p : ℕ) (x : S) → rest p x ≡ ended 0 p x
+
+  -- at the end of the beginning every entry is late
+  at-end : {at end levels : ℕ} {k : Step S} → at ≡ len → levels ≡ main → Moves len' main at end levels k → Beyond len main levels k
+  at-end e top (ends m) = last-end top
+  at-end e top (stops m) = refused
+  at-end e top (leaf {next} m) = let far : len < next = omega (arith, m .on) in leaf-past far
+  at-end e top (nest {inside} m) = let far : len < inside = omega (arith, m .owns .on) in nest-past far
+
+  follow-late :
+      (go : Go S) (st : S) (at end levels : ℕ) (rest : Rest S) → Top levels rest
+      → {k : Step S} → Moves len' main at end levels k → Beyond len main levels k → Late len (follow go st end levels rest k .entries)
+  unfolding follow
+  follow-late go st at end levels rest top (ends {p} m) (last-end e) = rw (top e p st) nothing
+  follow-late go st at end levels rest top (stops m) refused = nothing
+  follow-late go st at end levels rest top (leaf {e} m) (leaf-past h) = let far : len < e .place + e .owned = omega (arith, m .place, m .owned) in past far
+  follow-late go st at end levels rest top (nest {e} m) (nest-past h) =
+      let far : len < e .place + e .owned = omega (arith, m .owns .place, m .owns .owned) in past far
+
+  follow-later :
+      (go go' : Go S) (st : S) (at end levels : ℕ) (rest rest' : Rest S)
+      → ((q : S) (a b l : ℕ) (r r' : Rest S) → a ≤ b → l ≤ main → Top l r → Top l r' → ((p : ℕ) (x : S) → Later prompt len (r p x) (r' p x))
+          → Later prompt len (go q a b l r) (go' q a b l r'))
+      → levels ≤ main → Top levels rest → Top levels rest' → ((p : ℕ) (x : S) → Later prompt len (rest p x) (rest' p x))
+      → {k k' : Step S} → Keeps main levels k k' → Moves len main at end levels k → Moves len' main at end levels k' → (prompt → Awaits len main levels k k')
+      → Later prompt len (follow go st end levels rest k) (follow go' st end levels rest' k')
+  unfolding follow
+  follow-later go go' st at end levels rest rest' ih low top top' on (alike (Stop zero p)) m m' awaits = on p st
+  follow-later go go' st at end levels rest rest' ih low top top' on (alike (Stop (suc n) p)) m m' awaits = later-refl _
+  follow-later go go' st at end levels rest rest' ih low top top' on (alike (Leaf e next q)) (leaf m) m' awaits =
+      step-later e (ih q next end levels rest rest' (m .within) low top top' on)
+  follow-later go go' st at end levels rest rest' ih low top top' on (alike (Nest e inside q after)) (nest m) m' awaits =
+      step-later e (ih q inside after (levels - 1) _ _ (m .order) (omega arith) (λ z. absurd (omega arith)) (λ z. absurd (omega arith))
+      (λ p left. ih left after end levels rest rest' (m .within) low top top' on))
+  follow-later go go' st at end levels rest rest' ih low top top' on (unsure {p} soon) m m' awaits =
+      record { entries = front; settled = λ _ b. absurd (b refl); late = λ b. follow-late go' st at end levels rest' top' m' (awaits b p refl) }
+  follow-later go go' st at end levels rest rest' ih low top top' on (unsure {p} (last e)) (ends m) m' awaits =
+      rw (top e p st)
+      (record { entries = front; settled = λ a _. absurd (a refl); late = λ _. follow-late go' st at end levels rest' top' m' (at-end (m .whole e) e m') })
+
+  module _
+      (look look' : Look S) (moves : MovesOn main len look) (moves' : MovesOn main len' look')
+      (keeps : KeepsOn main look look') (awaits : prompt → AwaitsOn main len look look') where
+    pub walk-later :
+        (f : ℕ) (st : S) (at end levels : ℕ) (rest rest' : Rest S) → at ≤ end → levels ≤ main
+        → Top levels rest → Top levels rest' → ((p : ℕ) (x : S) → Later prompt len (rest p x) (rest' p x))
+        → Later prompt len (walk look f st at end levels rest) (walk look' f st at end levels rest')
+    unfolding walk
+    walk-later zero st at end levels rest rest' order low top top' on = later-refl _
+    walk-later (suc f) st at end levels rest rest' order low top top' on =
+        follow-later (walk look f) (walk look' f) st at end levels rest rest'
+        (λ q a b l r r' ord lo t t' h. walk-later f q a b l r r' ord lo t t' h) low top top' on
+        (keeps st at end levels) (moves st at end levels order low) (moves' st at end levels order low) (λ b. awaits b st at end levels order low)
+
+-- ### Cut to a room, and to one at least as large
+
+cut-later :
+    {S : Type 0} {prompt : Type 0} {len : ℕ} {w w' : Listing S} (room more : ℕ) → room ≤ more → Later prompt len w w' → Stands (cut room w) (cut more w')
+cut-later {w} {w'} room more le l = record {
+  entries = rw (cut-entries room w, cut-entries more w') (front-take (l .entries) room more le);
+  settled = λ a b c.
+      let fits = cut-had-room room w c in
+      let is : cut room w .number ≡ w .number = ap (λ x. x .number) (cut-fits room w fits) in
+      let e : w ≡ w' = l .settled (λ z. a (is ∙ z)) (λ z. b (is ∙ z)) in
+      cut-larger room more w le c ∙ ap (cut more) e;
+}
+
+-- ### Before the walk: a listing that ended at once
+
+pub ended-stands : {S : Type 0} (n p : ℕ) (st : S) (room more : ℕ) → Stands (cut room (ended n p st)) (cut more (ended n p st))
+ended-stands n p st room more =
+    rw (cut-ended room n p st, cut-ended more n p st) (record { entries = front; settled = λ _ _ _. refl })
+
+pub soon-stands : {S : Type 0} (p : ℕ) (st : S) (room : ℕ) (b : Answer) → Stands (cut room (ended 2 p st)) b
+soon-stands p st room b = rw (cut-ended room 2 p st) (record { entries = front; settled = λ _ z _. absurd (z refl) })
+
+-- ### The listing
+
+module _ {S : Type 0} (main : ℕ) (look : List ℕ → Look S) (rules : Rules main look) (s t : List ℕ) (st : S) (at end : ℕ) (order : at ≤ end) where
+  pub run-later : Later (Prompt main look) (length s) (run (look s) (length s) st at end main) (run (look (s ++ t)) (length (s ++ t)) st at end main)
+  unfolding run
+  run-later =
+      let long = enough (length (s ++ t)) at in
+      subst (λ (w : Listing S). Later (Prompt main look) (length s) w (walk (look (s ++ t)) long st at end main (ended 0)))
+      (run-fuel main (length s) (look s) (rules .moves s) long st at end main (omega (arith, length-append s t)) order (omega arith))
+      (walk-later (Prompt main look) main (length s) (length (s ++ t)) (rules .nested) (look s) (look (s ++ t)) (rules .moves s) (rules .moves (s ++ t))
+      (rules .keeps s t) (λ b. b .awaits s t) long st at end main (ended 0) (ended 0) order (omega arith) (λ _ p x. refl) (λ _ p x. refl)
+      (λ p x. later-refl (Prompt main look) main (length s) (length (s ++ t)) (rules .nested) _))
+
+  pub prefix :
+      (room more : ℕ) → room ≤ more
+      → Stands (cut room (run (look s) (length s) st at end main)) (cut more (run (look (s ++ t)) (length (s ++ t)) st at end main))
+  prefix room more le = cut-later room more le run-later

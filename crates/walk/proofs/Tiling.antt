@@ -1,0 +1,98 @@
+-- Bytes owned: the entries of any listing lie side by side, up to a place at or before its answer's; those of an accepted one reach the input's end.
+use mathlib.Core.Path.{_≡_, refl, sym, subst}
+use mathlib.Core.List.{List, [], _∷_, _++_}
+use Prim.Native.Nat.{ℕ, zero, suc, _+_, _≤_}
+use native.Mathlib.Omega.{arith}
+use lib.ListN.{drop}
+use Rattle.laws.specs.All.{All, empty, both}
+use Rattle.entry.specs.declared.Entry.{Entry}
+use Rattle.walk.specs.Walk.{Stop, Look, run}
+use Rattle.walk.specs.Room.{Answer, cut}
+use Rattle.walk.specs.Owed.{Moves, ends, stops, MovesOn}
+use Rattle.walk.specs.Promised.{Tiles, none, next, total, Found, Full}
+use Rattle.walk.specs.Invariant.{Family, Invariant, Stopped, Kept}
+use Rattle.walk.proofs.Cut.{plain, cut-case, cut-twelve}
+use Rattle.walk.proofs.Invariant.{run-kept}
+
+-- ### Entries side by side
+
+pub tiles-total : {a b : ℕ} {es : List Entry} → Tiles a es b → a + total es ≡ b
+unfolding total
+tiles-total none = omega arith
+tiles-total (next h t) = omega (arith, tiles-total t)
+
+tiles-more : {a b c : ℕ} {es : List Entry} (e : Entry) → Tiles a es b → e .place ≡ b → b + e .owned ≡ c → Tiles a (es ++ e ∷ []) c
+tiles-more {b} e none h is = next h (subst (Tiles (b + e .owned) []) is none)
+tiles-more e (next k t) h is = next k (tiles-more e t h is)
+
+-- up to the header of any of them
+tiles-before : {a c : ℕ} (es : List Entry) (e : Entry) (more : List Entry) → Tiles a (es ++ e ∷ more) c → Tiles a es (e .place)
+tiles-before [] e more (next h t) = subst (λ (a : ℕ). Tiles a [] (e .place)) h none
+tiles-before (x ∷ es) e more (next h t) = next h (tiles-before es e more t)
+
+pub tiles-drop : {a b : ℕ} {es : List Entry} → Tiles a es b → (n : ℕ) → (c : ℕ) × Tiles c (drop n es) b
+tiles-drop {a} t zero = (a, t)
+tiles-drop {a} none (suc n) = (a, none)
+tiles-drop (next h t) (suc n) = tiles-drop t n
+
+-- none of them lies before their beginning
+pub tiles-above : {a b : ℕ} {es : List Entry} (m : ℕ) → m ≤ a → Tiles a es b → All (λ (e : Entry). m ≤ e .place) es
+tiles-above m h none = empty
+tiles-above m h (next {e} k t) = let low : m ≤ e .place = omega arith in both low (tiles-above m (omega arith) t)
+
+-- where the table is full: up to the answer's place
+full-tiles : {a c : ℕ} {all : List Entry} {room : ℕ} {r : Answer} → Tiles a all c → Full all room r → Tiles a (r .entries) (r .place)
+full-tiles {a} {c} {r} t f =
+    subst (Tiles a (r .entries)) (sym (f .place)) (tiles-before (r .entries) (f .first) (f .more) (subst (λ (l : List Entry). Tiles a l c) (f .is) t))
+
+-- ### A walk's
+
+stop-place : {S : Type 0} {len main at end levels n p : ℕ} → Moves {S = S} len main at end levels (Stop n p) → at ≤ p
+stop-place (ends m) = omega (arith, m .place)
+stop-place (stops m) = m
+
+module _ {S : Type 0} (main len : ℕ) (look : Look S) (moves : MovesOn main len look) where
+  abbrev Tiled : ℕ → Family S
+  Tiled a levels at es st = Tiles a es at
+
+  tiled : (a : ℕ) → Invariant main len look (Tiled a)
+  tiled a = record {
+    leaf = λ {e} low o is t. tiles-more e t (o .place) (o .owned);
+    nest = λ {e} low o is t. tiles-more e t (o .owns .place) (o .owns .owned);
+    out = λ deep low is t. t;
+  }
+
+  -- where a look had the walk stop
+  stopped-found : (a n p : ℕ) (es : List Entry) → Stopped main len look (Tiled a) n p es → Found a (plain n p es)
+  stopped-found a n p es s = record {
+    upto = s .at;
+    tiles = s .holds;
+    before = stop-place (subst (Moves len main (s .at) (s .end) (s .levels)) (s .stops) (moves (s .state) (s .at) (s .end) (s .levels) (s .order) (s .low)));
+  }
+
+  module _ (st : S) (at end levels : ℕ) (order : at ≤ end) (low : levels ≤ main) where
+    kept : Kept main len look (Tiled at) end levels [] (run look len st at end levels)
+    kept = run-kept main len look (Tiled at) moves (tiled at) st at end levels [] order low none
+
+    pub run-found : let w = run look len st at end levels in Found at (plain (w .number) (w .place) (w .entries))
+    run-found = stopped-found at _ _ _ (kept .stopped)
+
+    pub cut-found : (room : ℕ) → Found at (cut room (run look len st at end levels))
+    cut-found room =
+        let w = run look len st at end levels in
+        cut-case (Found at) room w run-found (λ r _ f. record { upto = r .place; tiles = full-tiles (run-found .tiles) f; before = omega arith })
+
+    -- a full table's entries reach the header of the first entry that has no room
+    pub cut-twelve-tiles :
+        (room : ℕ)
+        → let w = run look len st at end levels in (w .number ≡ 12 → ⊥) → cut room w .number ≡ 12 → Tiles at (cut room w .entries) (cut room w .place)
+    cut-twelve-tiles room own h = full-tiles (run-found .tiles) (cut-twelve room (run look len st at end levels) own h)
+
+  -- an accepted listing at the main level
+  pub run-accepted :
+      (st : S) (at end : ℕ) → at ≤ end
+      → let w = run look len st at end main in w .number ≡ 0 → Tiles at (w .entries) len × (w .place ≡ len)
+  run-accepted st at end order accepted =
+      let f = kept st at end main order (omega arith) .finished accepted in
+      let e = f .ends .whole refl in
+      (subst (Tiles at (run look len st at end main .entries)) e (f .holds), e)

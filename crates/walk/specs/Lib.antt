@@ -1,0 +1,7 @@
+-- A walk of nested blocks by any rules: what it lists, what the rules owe it, and what follows.
+pub mod Walk
+pub mod Room
+pub mod Unit
+pub mod Owed
+pub mod Promised
+pub mod Invariant

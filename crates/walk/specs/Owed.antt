@@ -1,0 +1,81 @@
+-- What the rules owe the walk: two facts of one step. All that stands in Promised.antt follows for any rules that pay them.
+use mathlib.Core.Path.{_≡_}
+use mathlib.Core.List.{List, _++_}
+use Prim.Native.Nat.{ℕ, suc, _+_, _≤_, _<_}
+use lib.ListN.{length}
+use Rattle.entry.specs.declared.Entry.{Entry}
+use Rattle.walk.specs.Walk.{Step, Stop, Leaf, Nest, Look}
+
+-- ### A step moves on, and its entry owns what it passes
+
+-- a parent ends where the walk stands: inside at its end, at the main level at the input's end
+pub record Ends (len main at end levels p : ℕ) : Type 0 where
+  pub place : p ≡ at
+  pub inside : levels < main → at ≡ end
+  pub whole : levels ≡ main → at ≡ len
+
+-- an entry owns the bytes from its header up to `next`, all of them present and inside the parent
+pub record Owns (len at end : ℕ) (e : Entry) (next : ℕ) : Type 0 where
+  pub place : e .place ≡ at
+  pub owned : at + e .owned ≡ next
+  pub on : at < next
+  pub present : next ≤ len
+  pub within : next ≤ end
+
+pub record Opens (len at end levels : ℕ) (e : Entry) (inside after : ℕ) : Type 0 where
+  pub owns : Owns len at end e inside
+  pub order : inside ≤ after
+  pub within : after ≤ end
+  pub deep : 0 < levels
+
+-- a refusal's place is the one looked at, or a later one
+pub data Moves {S : Type 0} (len main at end levels : ℕ) : Step S → Type 0 where
+  ends : {p : ℕ} → Ends len main at end levels p → Moves len main at end levels (Stop 0 p)
+  stops : {n p : ℕ} → at ≤ p → Moves len main at end levels (Stop (suc n) p)
+  leaf : {e : Entry} {next : ℕ} {q : S} → Owns len at end e next → Moves len main at end levels (Leaf e next q)
+  nest : {e : Entry} {inside after : ℕ} {q : S} → Opens len at end levels e inside after → Moves len main at end levels (Nest e inside q after)
+
+-- ### More input keeps a step
+
+-- an answer that more input may change: "ends too soon", and at the main level "accepted"
+pub data Unsure (main levels : ℕ) : ℕ → Type 0 where
+  soon : Unsure main levels 2
+  last : levels ≡ main → Unsure main levels 0
+
+-- the step on a beginning of the input, and on the whole of it
+pub data Keeps {S : Type 0} (main levels : ℕ) : Step S → Step S → Type 0 where
+  alike : (k : Step S) → Keeps main levels k k
+  unsure : {n p : ℕ} {k : Step S} → Unsure main levels n → Keeps main levels (Stop n p) k
+
+-- ### Both, for rules that look at an input, with `main` levels left at the main level
+
+abbrev pub MovesOn : {S : Type 0} → ℕ → ℕ → Look S → Type 0
+MovesOn {S} main len look = (st : S) (at end levels : ℕ) → at ≤ end → levels ≤ main → Moves len main at end levels (look st at end levels)
+
+abbrev pub KeepsOn : {S : Type 0} → ℕ → Look S → Look S → Type 0
+KeepsOn {S} main look look' = (st : S) (at end levels : ℕ) → Keeps main levels (look st at end levels) (look' st at end levels)
+
+pub record Rules {S : Type 0} (main : ℕ) (look : List ℕ → Look S) : Type 0 where
+  pub nested : 0 < main
+  pub moves : (s : List ℕ) → MovesOn main (length s) (look s)
+  pub keeps : (s t : List ℕ) → KeepsOn main (look s) (look (s ++ t))
+
+-- ### Apart from these: an entry is listed once its own bytes are there
+
+-- no entry here, or one that owns bytes beyond the first len
+pub data Beyond {S : Type 0} (len main levels : ℕ) : Step S → Type 0 where
+  last-end : {p : ℕ} → levels ≡ main → Beyond len main levels (Stop 0 p)
+  refused : {n p : ℕ} → Beyond len main levels (Stop (suc n) p)
+  leaf-past : {e : Entry} {next : ℕ} {q : S} → len < next → Beyond len main levels (Leaf e next q)
+  nest-past : {e : Entry} {inside after : ℕ} {q : S} → len < inside → Beyond len main levels (Nest e inside q after)
+
+-- where the first len bytes of the input end too soon, bytes beyond them are needed
+abbrev pub Awaits : {S : Type 0} → ℕ → ℕ → ℕ → Step S → Step S → Type 0
+Awaits len main levels k k' = (p : ℕ) → k ≡ Stop 2 p → Beyond len main levels k'
+
+abbrev pub AwaitsOn : {S : Type 0} → ℕ → ℕ → Look S → Look S → Type 0
+AwaitsOn {S} main len look look' =
+    (st : S) (at end levels : ℕ) → at ≤ end → levels ≤ main → Awaits len main levels (look st at end levels) (look' st at end levels)
+
+pub record Prompt {S : Type 0} (main : ℕ) (look : List ℕ → Look S) : Type 0 where
+  pub awaits : (s t : List ℕ) → AwaitsOn main (length s) (look s) (look (s ++ t))

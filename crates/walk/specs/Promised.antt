@@ -1,0 +1,42 @@
+-- The claims of a listing that follow from what the rules owe.
+use mathlib.Core.Path.{_≡_}
+use mathlib.Core.List.{List, [], _∷_, _++_}
+use Prim.Native.Nat.{ℕ, _+_, _≤_}
+use lib.ListN.{length}
+use Rattle.laws.specs.Front.{Front}
+use Rattle.entry.specs.declared.Entry.{Entry}
+use Rattle.walk.specs.Room.{Answer}
+
+-- ### Bytes owned
+
+-- the entries lie side by side, from a to b
+pub data Tiles : ℕ → List Entry → ℕ → Type 0 where
+  none : {a : ℕ} → Tiles a [] a
+  next : {a b : ℕ} {e : Entry} {es : List Entry} → e .place ≡ a → Tiles (a + e .owned) es b → Tiles a (e ∷ es) b
+
+unfoldable pub total : List Entry → ℕ
+total [] = 0
+total (e ∷ es) = e .owned + total es
+
+-- of any answer, accepted or refused: its entries lie side by side from a on, up to a place at or before the answer's
+pub record Found (a : ℕ) (r : Answer) : Type 0 where
+  pub upto : ℕ
+  pub tiles : Tiles a (r .entries) upto
+  pub before : upto ≤ r .place
+
+-- ### The room
+
+-- the table is full: of all entries as many as have room are listed, and the place is the header of the first that has none
+pub record Full (all : List Entry) (room : ℕ) (r : Answer) : Type 0 where
+  pub first : Entry
+  pub more : List Entry
+  pub is : all ≡ r .entries ++ first ∷ more
+  pub count : length (r .entries) ≡ room
+  pub place : r .place ≡ first .place
+
+-- ### More input, and more room
+
+-- the answer to a beginning of the input with some room, and to the whole of it with at least that room
+pub record Stands (a b : Answer) : Type 0 where
+  pub entries : Front (a .entries) (b .entries)
+  pub settled : (a .number ≡ 0 → ⊥) → (a .number ≡ 2 → ⊥) → (a .number ≡ 12 → ⊥) → a ≡ b
