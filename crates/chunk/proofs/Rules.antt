@@ -1,16 +1,14 @@
 -- A chunk without a fault satisfies its rules.
 use mathlib.Core.Path.{_≡_, refl, subst⁻¹}
-use mathlib.Core.Bool.{Bool, true, false, _&&_, _||_, not}
+use mathlib.Core.Bool.{Bool, true, false, _&&_, _||_, not, cond}
 use Prim.Native.Nat.{ℕ, _≤_}
 use native.Mathlib.Omega.{arith}
 use borrow.Author.Tests.{leb-true, eqb-true}
-use lib.Dec.{eqb, leb}
+use lib.Dec.{eqb, leb, ltb}
 use lib.IntN.{ℤ, pos, negsuc}
-use Rattle.limits.specs.Limits.{sideLimit, planeLimit}
-use Rattle.rect.specs.Rows.{planeOf}
+use Rattle.limits.specs.Limits.{sideLimit}
 use Rattle.laws.proofs.Tests.{never, both, either}
 use Rattle.rect.proofs.Tests.{proper-yes, saved-sized, saved-inside}
-use Rattle.rect.proofs.Rows.{plane}
 use Rattle.chunk.specs.declared.channel_information.ChannelChunk.{ChannelChunk}
 use Rattle.chunk.specs.declared.fault.Fault.the-variants.{None}
 use Rattle.chunk.specs.declared.image_attributes.ImageChunk.{ImageChunk}
@@ -48,9 +46,10 @@ four P p₁ p₄ p₈ p₂₄ d h =
     is : (n : ℕ) → P n → eqb d n ≡ true → P d
     is n p e = subst⁻¹ P (eqb-true d n e) p
 
-pub colour-bits : (d : ℕ) → isDepth d ≡ true → colourBits d ≤ 8
+-- the depth below 24, else 8
+pub colour-bits : (d : ℕ) → isDepth d ≡ true → colourBits d ≡ cond (ltb d 24) d 8
 unfolding colourBits
-colour-bits = four (λ (d : ℕ). colourBits d ≤ 8) (omega arith) (omega arith) (omega arith) (omega arith)
+colour-bits = four (λ (d : ℕ). colourBits d ≡ cond (ltb d 24) d 8) refl refl refl refl
 
 module _ (g d : ℕ) (h : (eqb g 0 || (eqb g 1 && eqb d 8)) ≡ true) where
   grey : g ≤ 1
@@ -125,11 +124,3 @@ codes-rules c fault =
 pub plane-rule : (length : ℕ) (c : ChannelChunk) → planeFault length c ≡ None → c .plane ≡ length
 unfolding planeFault
 plane-rule length c fault = eqb-true _ _ (kept (planeFields length c) fault .0)
-
--- the planes of a layer without a fault have lengths within the limit: colour planes by the image's depth, masks at 8 bits
-pub layer-planes :
-    (depth : ℕ) (c : LayerChunk) → isDepth depth ≡ true → layerFault depth c ≡ None
-    → (planeOf (c .image .saved) (colourBits depth) ≤ planeLimit) × (planeOf (c .mask .saved) 8 ≤ planeLimit)
-layer-planes depth c d fault =
-    let rules = layer-rules depth c fault in
-    (plane (c .image .saved) (colourBits depth) (rules .saved-image) (colour-bits depth d), plane (c .mask .saved) 8 (rules .saved-mask) (omega arith))

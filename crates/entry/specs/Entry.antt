@@ -13,7 +13,8 @@ size = 13
 
 abbrev pub numbersOf : Entry → List ℕ
 numbersOf e =
-    e .id ∷ e .skipped ∷ e .level ∷ e .place ∷ e .owned ∷ e .layer ∷ e .bitmap ∷ e .channel ∷ e .start ∷ e .stored ∷ e .width ∷ e .height ∷ e .plane ∷ []
+    e .id ∷ e .skipped ∷ e .level ∷ e .place ∷ e .owned ∷ e .layer ∷ e .bitmap ∷ e .channel ∷ e .start ∷ e .stored
+    ∷ e .width ∷ e .height ∷ e .plane ∷ []
 
 -- the numbers of entries, one after another
 unfoldable pub numbers : List Entry → List ℕ

@@ -32,8 +32,19 @@ pub fn put(table: &mut [u32], used: usize, e: Entry)
     ensures { λ _. ⌜ now (table .exit) ≡ over (now (table .entry)) used (numbersOf e) ⌝ }
 {
     let numbers = [
-        e.id, e.skipped, e.level, e.place, e.owned, e.layer, e.bitmap, e.channel, e.start,
-        e.stored, e.width, e.height, e.plane,
+        e.id,
+        e.skipped,
+        e.level,
+        e.place,
+        e.owned,
+        e.layer,
+        e.bitmap,
+        e.channel,
+        e.start,
+        e.stored,
+        e.width,
+        e.height,
+        e.plane,
     ];
     let mut i = 0;
     while i < Entry::SIZE {

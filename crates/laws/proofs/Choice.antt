@@ -35,3 +35,8 @@ module _ {ℓ} {A : Type ℓ} where
       (P : A → A → Type 0) (b b' : Bool) (x y x' y' : A) → b ≡ b'
       → (b ≡ true → P x x') → (b ≡ false → P y y') → P (pick b x y) (pick b' x' y')
   pick-alike P b b' x y x' y' e f g = subst (λ (c : Bool). P (pick b x y) (pick c x' y')) e (pick-ind₂ P b x y x' y' f g)
+
+  -- a relation between a choice and one thing
+  pub pick-left :
+      (P : A → A → Type 0) (b : Bool) (x y z : A) → (b ≡ true → P x z) → (b ≡ false → P y z) → P (pick b x y) z
+  pick-left P b x y z f g = pick-ind (λ (w : A). P w z) b x y f g

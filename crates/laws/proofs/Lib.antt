@@ -8,4 +8,5 @@ pub mod Stored
 pub mod Front
 pub mod All
 pub mod Along
+pub mod Table
 pub mod OneOutcome

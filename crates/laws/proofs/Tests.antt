@@ -22,6 +22,14 @@ one-of true b h = refl
 one-of false b (inl e) = never e
 one-of false b (inr e) = e
 
+pub neither : (a b : Bool) → (a || b) ≡ false → (a ≡ false) × (b ≡ false)
+neither true b h = never (sym h)
+neither false b h = (refl, h)
+
+pub other-not : (a b : Bool) → (a && b) ≡ false → a ≡ true → b ≡ false
+other-not true b h e = h
+other-not false b h e = never e
+
 pub less-or-not : (m n : ℕ) → (m < n) ⊎ (n ≤ m)
 less-or-not m n = by (ltb m n) refl
   where

@@ -1,4 +1,4 @@
--- A listing cut to a room: by its first entry, and with a larger room.
+-- A listing cut to a room: by its first entry, what of it has room, with a larger room, and with more behind it.
 use mathlib.Core.Path.{_≡_, refl, sym, ap, ap₂, subst, _∙_}
 use mathlib.Core.List.{List, [], _∷_, _++_, append-nil}
 use Prim.Native.Nat.{ℕ, zero, suc, _≤_}
@@ -66,7 +66,7 @@ module _ {S : Type 0} where
   unfolding cut closed
   cut-full e w = refl
 
-  -- ### With a larger room
+  -- ### What has room
 
   pub cut-entries : (room : ℕ) (w : Listing S) → cut room w .entries ≡ take room (w .entries)
   unfolding cut
@@ -105,6 +105,8 @@ module _ {S : Type 0} where
 
   pub cut-twelve : (room : ℕ) (w : Listing S) → (w .number ≡ 12 → ⊥) → cut room w .number ≡ 12 → Full (w .entries) room (cut room w)
   cut-twelve room w own = cut-case (λ (r : Answer). r .number ≡ 12 → Full (w .entries) room r) room w (λ z. absurd (own z)) (λ r _ f _. f)
+
+  -- ### With a larger room
 
   pub cut-larger : (room more : ℕ) (w : Listing S) → room ≤ more → (cut room w .number ≡ 12 → ⊥) → cut room w ≡ cut more w
   cut-larger room more w le h =

@@ -9,12 +9,13 @@ module _ {S : Type 0} (main len : ℕ) where
   -- two walks that agree further on agree here
   follow-same :
       (go go' : Go S) (st : S) (at end levels : ℕ) (rest rest' : Rest S)
-      → ((q : S) (a b l : ℕ) (r r' : Rest S) → at < a → at < len → a ≤ b → l ≤ main → ((p : ℕ) (x : S) → r p x ≡ r' p x) → go q a b l r ≡ go' q a b l r')
+      → ((q : S) (a b l : ℕ) (r r' : Rest S) → at < a → at < len → a ≤ b → l ≤ main → ((p : ℕ) (x : S) → r p x ≡ r' p x)
+      → go q a b l r ≡ go' q a b l r')
       → levels ≤ main → ((p : ℕ) (x : S) → rest p x ≡ rest' p x)
       → {k : Step S} → Moves len main at end levels k → follow go st end levels rest k ≡ follow go' st end levels rest' k
   unfolding follow
   follow-same go go' st at end levels rest rest' ih low same (ends {p} m) = same p st
-  follow-same go go' st at end levels rest rest' ih low same (stops m) = refl
+  follow-same go go' st at end levels rest rest' ih low same (stops m other) = refl
   follow-same go go' st at end levels rest rest' ih low same (leaf {e} {next} {q} m) =
       ap (e ◂_) (ih q next end levels rest rest' (m .on) (omega arith) (m .within) low same)
   follow-same go go' st at end levels rest rest' ih low same (nest {e} {inside} {after} {q} m) =
@@ -36,7 +37,8 @@ module _ {S : Type 0} (main len : ℕ) where
   -- a walk to the parent's end, with any fuel that is enough
   pub run-fuel :
       (look : Look S) → MovesOn main len look
-      → (f : ℕ) (st : S) (at end levels : ℕ) → len - at < f → at ≤ end → levels ≤ main → walk look f st at end levels (ended 0) ≡ run look len st at end levels
+      → (f : ℕ) (st : S) (at end levels : ℕ) → len - at < f → at ≤ end → levels ≤ main
+      → walk look f st at end levels (ended 0) ≡ run look len st at end levels
   unfolding run
   run-fuel look moves f st at end levels h order low =
       steady look moves f (enough len at) st at end levels (ended 0) (ended 0) h (omega arith) order low (λ p x. refl)

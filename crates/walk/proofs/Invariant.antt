@@ -53,7 +53,7 @@ module _ {S : Type 0} (main len : ℕ) (look : Look S) (P : Family S) where
       follow-kept :
           (go : Go S) (st : S) (at b l : ℕ) (rest : Rest S) (es : List Entry)
           → ((q : S) (a' b' l' : ℕ) (r : Rest S) (xs : List Entry) → at < a' → at < len → a' ≤ b' → l' ≤ main → P l' a' xs q → After b' l' r
-              → Kept main len look P end top xs (go q a' b' l' r))
+          → Kept main len look P end top xs (go q a' b' l' r))
           → at ≤ b → l ≤ main → P l at es st → After b l rest
           → {k : Step S} → look st at b l ≡ k → Moves len main at b l k → Kept main len look P end top es (follow go st b l rest k)
       unfolding follow
@@ -63,7 +63,7 @@ module _ {S : Type 0} (main len : ℕ) (look : Look S) (P : Family S) where
           (omega (arith, m .place))
           (subst (λ (x : ℕ). look st x b l ≡ Stop 0 p) (sym (m .place)) is)
           (subst (λ (x : ℕ). P l x es st) (sym (m .place)) here)
-      follow-kept go st at b l rest es ih order low here after is (stops {n} {p} m) =
+      follow-kept go st at b l rest es ih order low here after is (stops {n} {p} m other) =
           nothing es (suc n) p st
           (record { levels = l; at = at; end = b; state = st; low = low; order = order; holds = here; stops = is })
           (λ z. absurd (omega arith))

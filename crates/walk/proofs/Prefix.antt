@@ -9,12 +9,17 @@ use Rattle.laws.specs.Front.{Front, front, same}
 use Rattle.laws.proofs.Front.{front-refl, front-take}
 use Rattle.entry.specs.declared.Entry.{Entry}
 use Rattle.walk.specs.Walk.{Step, Stop, Leaf, Nest, Look, Listing, Rest, Go, ended, _◂_, follow, walk, run, enough}
-use Rattle.walk.specs.Owed.{Moves, ends, stops, leaf, nest, MovesOn, soon, last, Keeps, alike, unsure, KeepsOn, Rules}
-use Rattle.walk.specs.Owed.{Beyond, last-end, refused, leaf-past, nest-past, Awaits, AwaitsOn, Prompt}
+use Rattle.walk.specs.Owed.{Moves, ends, stops, leaf, nest, MovesOn, Unsure, soon, last, Keeps, alike, unsure, KeepsOn, Rules}
+use Rattle.walk.specs.Owed.{Beyond, last-end, refused, leaf-past, nest-past, Waits, stays, waits, WaitsOn, Prompt}
 use Rattle.walk.specs.Promised.{Stands}
 use Rattle.walk.specs.Room.{Answer, cut}
 use Rattle.walk.proofs.Fuel.{run-fuel}
 use Rattle.walk.proofs.Cut.{cut-ended, cut-entries, cut-fits, cut-had-room, cut-larger}
+
+-- rules that wait keep
+pub waits-keeps : {S : Type 0} {len main levels : ℕ} {k k' : Step S} → Waits len main levels k k' → Keeps main levels k k'
+waits-keeps (stays k) = alike k
+waits-keeps (waits u b) = unsure u
 
 -- ### The listing without a room
 
@@ -44,19 +49,17 @@ module _ {S : Type 0} (prompt : Type 0) (main len len' : ℕ) (nested : 0 < main
   abbrev Top : ℕ → Rest S → Type 0
   Top levels rest = levels ≡ main → (p : ℕ) (x : S) → rest p x ≡ ended 0 p x
 
-  -- at the end of the beginning every entry is late
-  at-end : {at end levels : ℕ} {k : Step S} → at ≡ len → levels ≡ main → Moves len' main at end levels k → Beyond len main levels k
-  at-end e top (ends m) = last-end top
-  at-end e top (stops m) = refused
-  at-end e top (leaf {next} m) = let far : len < next = omega (arith, m .on) in leaf-past far
-  at-end e top (nest {inside} m) = let far : len < inside = omega (arith, m .owns .on) in nest-past far
+  wait-past : {levels n p : ℕ} {k : Step S} → Unsure main levels n → Waits len main levels (Stop n p) k → Beyond len main levels k
+  wait-past soon (stays k) = refused
+  wait-past (last e) (stays k) = last-end e
+  wait-past u (waits v b) = b
 
   follow-late :
       (go : Go S) (st : S) (at end levels : ℕ) (rest : Rest S) → Top levels rest
       → {k : Step S} → Moves len' main at end levels k → Beyond len main levels k → Late len (follow go st end levels rest k .entries)
   unfolding follow
   follow-late go st at end levels rest top (ends {p} m) (last-end e) = rw (top e p st) nothing
-  follow-late go st at end levels rest top (stops m) refused = nothing
+  follow-late go st at end levels rest top (stops m other) refused = nothing
   follow-late go st at end levels rest top (leaf {e} m) (leaf-past h) = let far : len < e .place + e .owned = omega (arith, m .place, m .owned) in past far
   follow-late go st at end levels rest top (nest {e} m) (nest-past h) =
       let far : len < e .place + e .owned = omega (arith, m .owns .place, m .owns .owned) in past far
@@ -64,27 +67,27 @@ module _ {S : Type 0} (prompt : Type 0) (main len len' : ℕ) (nested : 0 < main
   follow-later :
       (go go' : Go S) (st : S) (at end levels : ℕ) (rest rest' : Rest S)
       → ((q : S) (a b l : ℕ) (r r' : Rest S) → a ≤ b → l ≤ main → Top l r → Top l r' → ((p : ℕ) (x : S) → Later prompt len (r p x) (r' p x))
-          → Later prompt len (go q a b l r) (go' q a b l r'))
+      → Later prompt len (go q a b l r) (go' q a b l r'))
       → levels ≤ main → Top levels rest → Top levels rest' → ((p : ℕ) (x : S) → Later prompt len (rest p x) (rest' p x))
-      → {k k' : Step S} → Keeps main levels k k' → Moves len main at end levels k → Moves len' main at end levels k' → (prompt → Awaits len main levels k k')
+      → {k k' : Step S} → Keeps main levels k k' → Moves len main at end levels k → Moves len' main at end levels k' → (prompt → Waits len main levels k k')
       → Later prompt len (follow go st end levels rest k) (follow go' st end levels rest' k')
   unfolding follow
-  follow-later go go' st at end levels rest rest' ih low top top' on (alike (Stop zero p)) m m' awaits = on p st
-  follow-later go go' st at end levels rest rest' ih low top top' on (alike (Stop (suc n) p)) m m' awaits = later-refl _
-  follow-later go go' st at end levels rest rest' ih low top top' on (alike (Leaf e next q)) (leaf m) m' awaits =
+  follow-later go go' st at end levels rest rest' ih low top top' on (alike (Stop zero p)) m m' waiting = on p st
+  follow-later go go' st at end levels rest rest' ih low top top' on (alike (Stop (suc n) p)) m m' waiting = later-refl _
+  follow-later go go' st at end levels rest rest' ih low top top' on (alike (Leaf e next q)) (leaf m) m' waiting =
       step-later e (ih q next end levels rest rest' (m .within) low top top' on)
-  follow-later go go' st at end levels rest rest' ih low top top' on (alike (Nest e inside q after)) (nest m) m' awaits =
+  follow-later go go' st at end levels rest rest' ih low top top' on (alike (Nest e inside q after)) (nest m) m' waiting =
       step-later e (ih q inside after (levels - 1) _ _ (m .order) (omega arith) (λ z. absurd (omega arith)) (λ z. absurd (omega arith))
       (λ p left. ih left after end levels rest rest' (m .within) low top top' on))
-  follow-later go go' st at end levels rest rest' ih low top top' on (unsure {p} soon) m m' awaits =
-      record { entries = front; settled = λ _ b. absurd (b refl); late = λ b. follow-late go' st at end levels rest' top' m' (awaits b p refl) }
-  follow-later go go' st at end levels rest rest' ih low top top' on (unsure {p} (last e)) (ends m) m' awaits =
+  follow-later go go' st at end levels rest rest' ih low top top' on (unsure soon) m m' waiting =
+      record { entries = front; settled = λ _ b. absurd (b refl); late = λ b. follow-late go' st at end levels rest' top' m' (wait-past soon (waiting b)) }
+  follow-later go go' st at end levels rest rest' ih low top top' on (unsure {p} (last e)) m m' waiting =
       rw (top e p st)
-      (record { entries = front; settled = λ a _. absurd (a refl); late = λ _. follow-late go' st at end levels rest' top' m' (at-end (m .whole e) e m') })
+      (record { entries = front; settled = λ a _. absurd (a refl); late = λ b. follow-late go' st at end levels rest' top' m' (wait-past (last e) (waiting b)) })
 
   module _
       (look look' : Look S) (moves : MovesOn main len look) (moves' : MovesOn main len' look')
-      (keeps : KeepsOn main look look') (awaits : prompt → AwaitsOn main len look look') where
+      (keeps : KeepsOn main look look') (waiting : prompt → WaitsOn main len look look') where
     pub walk-later :
         (f : ℕ) (st : S) (at end levels : ℕ) (rest rest' : Rest S) → at ≤ end → levels ≤ main
         → Top levels rest → Top levels rest' → ((p : ℕ) (x : S) → Later prompt len (rest p x) (rest' p x))
@@ -94,7 +97,7 @@ module _ {S : Type 0} (prompt : Type 0) (main len len' : ℕ) (nested : 0 < main
     walk-later (suc f) st at end levels rest rest' order low top top' on =
         follow-later (walk look f) (walk look' f) st at end levels rest rest'
         (λ q a b l r r' ord lo t t' h. walk-later f q a b l r r' ord lo t t' h) low top top' on
-        (keeps st at end levels) (moves st at end levels order low) (moves' st at end levels order low) (λ b. awaits b st at end levels order low)
+        (keeps st at end levels order low) (moves st at end levels order low) (moves' st at end levels order low) (λ b. waiting b st at end levels order low)
 
 -- ### Cut to a room, and to one at least as large
 
@@ -128,7 +131,7 @@ module _ {S : Type 0} (main : ℕ) (look : List ℕ → Look S) (rules : Rules m
       subst (λ (w : Listing S). Later (Prompt main look) (length s) w (walk (look (s ++ t)) long st at end main (ended 0)))
       (run-fuel main (length s) (look s) (rules .moves s) long st at end main (omega (arith, length-append s t)) order (omega arith))
       (walk-later (Prompt main look) main (length s) (length (s ++ t)) (rules .nested) (look s) (look (s ++ t)) (rules .moves s) (rules .moves (s ++ t))
-      (rules .keeps s t) (λ b. b .awaits s t) long st at end main (ended 0) (ended 0) order (omega arith) (λ _ p x. refl) (λ _ p x. refl)
+      (rules .keeps s t) (λ b. b .waiting s t) long st at end main (ended 0) (ended 0) order (omega arith) (λ _ p x. refl) (λ _ p x. refl)
       (λ p x. later-refl (Prompt main look) main (length s) (length (s ++ t)) (rules .nested) _))
 
   pub prefix :

@@ -10,9 +10,9 @@ use Rattle.walk.specs.Walk.{Stop, Look, run}
 use Rattle.walk.specs.Room.{Answer, cut}
 use Rattle.walk.specs.Owed.{Moves, ends, stops, MovesOn}
 use Rattle.walk.specs.Promised.{Tiles, none, next, total, Found, Full}
-use Rattle.walk.specs.Invariant.{Family, Invariant, Stopped, Kept}
+use Rattle.walk.specs.Invariant.{Family, Invariant, Finished, Kept}
 use Rattle.walk.proofs.Cut.{plain, cut-case, cut-twelve}
-use Rattle.walk.proofs.Invariant.{run-kept}
+use Rattle.walk.proofs.Invariant.{run-kept, cut-finished}
 
 -- ### Entries side by side
 
@@ -47,9 +47,9 @@ full-tiles {a} {c} {r} t f =
 
 -- ### A walk's
 
-stop-place : {S : Type 0} {len main at end levels n p : ℕ} → Moves {S = S} len main at end levels (Stop n p) → at ≤ p
-stop-place (ends m) = omega (arith, m .place)
-stop-place (stops m) = m
+stop-place : {S : Type 0} {len main at end levels n p : ℕ} → Moves {S = S} len main at end levels (Stop n p) → (at ≤ p) × (n ≡ 12 → ⊥)
+stop-place (ends m) = (omega (arith, m .place), λ z. absurd (omega arith))
+stop-place (stops m other) = (m, other)
 
 module _ {S : Type 0} (main len : ℕ) (look : Look S) (moves : MovesOn main len look) where
   abbrev Tiled : ℕ → Family S
@@ -62,37 +62,41 @@ module _ {S : Type 0} (main len : ℕ) (look : Look S) (moves : MovesOn main len
     out = λ deep low is t. t;
   }
 
-  -- where a look had the walk stop
-  stopped-found : (a n p : ℕ) (es : List Entry) → Stopped main len look (Tiled a) n p es → Found a (plain n p es)
-  stopped-found a n p es s = record {
-    upto = s .at;
-    tiles = s .holds;
-    before = stop-place (subst (Moves len main (s .at) (s .end) (s .levels)) (s .stops) (moves (s .state) (s .at) (s .end) (s .levels) (s .order) (s .low)));
-  }
-
   module _ (st : S) (at end levels : ℕ) (order : at ≤ end) (low : levels ≤ main) where
     kept : Kept main len look (Tiled at) end levels [] (run look len st at end levels)
     kept = run-kept main len look (Tiled at) moves (tiled at) st at end levels [] order low none
 
+    -- the look that had the walk stop
+    last-look : let w = run look len st at end levels in (kept .stopped .at ≤ w .place) × (w .number ≡ 12 → ⊥)
+    last-look =
+        let s = kept .stopped in
+        stop-place (subst (Moves len main (s .at) (s .end) (s .levels)) (s .stops) (moves (s .state) (s .at) (s .end) (s .levels) (s .order) (s .low)))
+
     pub run-found : let w = run look len st at end levels in Found at (plain (w .number) (w .place) (w .entries))
-    run-found = stopped-found at _ _ _ (kept .stopped)
+    run-found = record { upto = kept .stopped .at; tiles = kept .stopped .holds; before = last-look .0 }
 
     pub cut-found : (room : ℕ) → Found at (cut room (run look len st at end levels))
     cut-found room =
         let w = run look len st at end levels in
         cut-case (Found at) room w run-found (λ r _ f. record { upto = r .place; tiles = full-tiles (run-found .tiles) f; before = omega arith })
 
-    -- a full table's entries reach the header of the first entry that has no room
-    pub cut-twelve-tiles :
+    -- 12 says that the table is full, and the entries reach the header of the first that has no room
+    pub cut-full-tiles :
         (room : ℕ)
-        → let w = run look len st at end levels in (w .number ≡ 12 → ⊥) → cut room w .number ≡ 12 → Tiles at (cut room w .entries) (cut room w .place)
-    cut-twelve-tiles room own h = full-tiles (run-found .tiles) (cut-twelve room (run look len st at end levels) own h)
+        → let w = run look len st at end levels in
+        cut room w .number ≡ 12 → Full (w .entries) room (cut room w) × Tiles at (cut room w .entries) (cut room w .place)
+    cut-full-tiles room h =
+        let f = cut-twelve room (run look len st at end levels) (last-look .1) h in (f, full-tiles (run-found .tiles) f)
 
-  -- an accepted listing at the main level
-  pub run-accepted :
-      (st : S) (at end : ℕ) → at ≤ end
-      → let w = run look len st at end main in w .number ≡ 0 → Tiles at (w .entries) len × (w .place ≡ len)
-  run-accepted st at end order accepted =
-      let f = kept st at end main order (omega arith) .finished accepted in
-      let e = f .ends .whole refl in
-      (subst (Tiles at (run look len st at end main .entries)) e (f .holds), e)
+  -- a listing that is accepted at the main level reaches the input's end
+  whole : (a end p : ℕ) (st : S) (es : List Entry) → Finished main len look (Tiled a) end main p st es → Tiles a es len × (p ≡ len)
+  whole a end p st es f = let e = f .ends .whole refl in (subst (Tiles a es) e (f .holds), e)
+
+  module _ (st : S) (at end : ℕ) (order : at ≤ end) where
+    pub run-accepted : let w = run look len st at end main in w .number ≡ 0 → Tiles at (w .entries) len × (w .place ≡ len)
+    run-accepted accepted = whole at end _ _ _ (kept st at end main order (omega arith) .finished accepted)
+
+    pub cut-accepted :
+        (room : ℕ) → let r = cut room (run look len st at end main) in r .number ≡ 0 → Tiles at (r .entries) len × (r .place ≡ len)
+    cut-accepted room accepted =
+        whole at end _ _ _ (cut-finished main len look (Tiled at) end main room [] _ (kept st at end main order (omega arith)) accepted)

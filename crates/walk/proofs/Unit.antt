@@ -10,7 +10,7 @@ use Rattle.laws.proofs.Part.{part-longer}
 use Rattle.laws.proofs.Choice.{pick-yes, pick-no, pick-ind}
 use Rattle.walk.specs.Walk.{Step, Stop}
 use Rattle.walk.specs.Unit.{unit}
-use Rattle.walk.specs.Owed.{Keeps, unsure, soon, Beyond, refused, Awaits}
+use Rattle.walk.specs.Owed.{Keeps, unsure, soon, Beyond, refused, Waits, waits}
 
 -- ### A unit's answer
 
@@ -32,35 +32,39 @@ module _ {S : Type 0} where
 
   -- ### On more input
 
-  longer :
-      (s t : List ℕ) (at n : ℕ) (judge : List ℕ → Step S) → at + n ≤ length s → unit (s ++ t) at n judge ≡ judge (part s at n)
-  longer s t at n judge here =
-      unit-there (s ++ t) at n judge (omega (arith, length-append s t)) ∙ ap judge (part-longer s t at n here)
-
-  -- a step k on more input, that is the unit where the unit was present already
-  pub unit-keeps-to :
-      (main levels : ℕ) (s t : List ℕ) (at n : ℕ) (judge judge' : List ℕ → Step S) (k : Step S)
-      → ((xs : List ℕ) → Keeps main levels (judge xs) (judge' xs)) → (at + n ≤ length s → k ≡ unit (s ++ t) at n judge')
-      → Keeps main levels (unit s at n judge) k
-  unit-keeps-to main levels s t at n judge judge' k rule is =
-      unit-ind (λ (x : Step S). Keeps main levels x k) s at n judge (λ _. unsure soon) (λ here.
-      subst (Keeps main levels (judge (part s at n)))
-      (sym (is here ∙ longer s t at n judge' here))
+  -- a relation to a step k on more input, which is the unit where the unit was present already
+  unit-to :
+      (R : Step S → Step S → Type 0) (s t : List ℕ) (at n : ℕ) (judge judge' : List ℕ → Step S) (k : Step S)
+      → (length s < at + n → R (Stop 2 at) k) → ((xs : List ℕ) → R (judge xs) (judge' xs)) → (at + n ≤ length s → k ≡ unit (s ++ t) at n judge')
+      → R (unit s at n judge) k
+  unit-to R s t at n judge judge' k short rule is =
+      unit-ind (λ (x : Step S). R x k) s at n judge short (λ here.
+      subst (R (judge (part s at n)))
+      (sym (is here ∙ unit-there (s ++ t) at n judge' (omega (arith, length-append s t)) ∙ ap judge' (part-longer s t at n here)))
       (rule (part s at n)))
 
-  pub unit-keeps :
-      (main levels : ℕ) (s t : List ℕ) (at n : ℕ) (judge judge' : List ℕ → Step S) → ((xs : List ℕ) → Keeps main levels (judge xs) (judge' xs))
-      → Keeps main levels (unit s at n judge) (unit (s ++ t) at n judge')
-  unit-keeps main levels s t at n judge judge' rule = unit-keeps-to main levels s t at n judge judge' (unit (s ++ t) at n judge') rule (λ _. refl)
+  module _ (main levels : ℕ) (s t : List ℕ) (at n : ℕ) (judge judge' : List ℕ → Step S) where
+    pub unit-keeps-to :
+        (k : Step S) → ((xs : List ℕ) → Keeps main levels (judge xs) (judge' xs)) → (at + n ≤ length s → k ≡ unit (s ++ t) at n judge')
+        → Keeps main levels (unit s at n judge) k
+    unit-keeps-to k = unit-to (Keeps main levels) s t at n judge judge' k (λ _. unsure soon)
 
-  -- a unit that is not present awaits its end, if what is judged by it has no entry that ends before
-  pub unit-awaits :
-      (main levels : ℕ) (s t : List ℕ) (at n : ℕ) (judge judge' : List ℕ → Step S)
-      → ((xs : List ℕ) → Awaits (length s) main levels (judge xs) (judge' xs))
-      → (length s < at + n → (xs : List ℕ) → Beyond (length s) main levels (judge' xs))
-      → Awaits (length s) main levels (unit s at n judge) (unit (s ++ t) at n judge')
-  unit-awaits main levels s t at n judge judge' rule past =
-      let long = unit (s ++ t) at n judge' in
-      unit-ind (λ (x : Step S). Awaits (length s) main levels x long) s at n judge
-      (λ short p _. unit-ind (Beyond (length s) main levels) (s ++ t) at n judge' (λ _. refused) (λ _. past short (part (s ++ t) at n)))
-      (λ here. subst (Awaits (length s) main levels (judge (part s at n))) (sym (longer s t at n judge' here)) (rule (part s at n)))
+    pub unit-keeps :
+        ((xs : List ℕ) → Keeps main levels (judge xs) (judge' xs)) → Keeps main levels (unit s at n judge) (unit (s ++ t) at n judge')
+    unit-keeps rule = unit-keeps-to (unit (s ++ t) at n judge') rule (λ _. refl)
+
+    -- a unit waits, if no entry that is judged by it ends before it
+    pub unit-waits-to :
+        (k : Step S) → (length s < at + n → Beyond (length s) main levels k)
+        → ((xs : List ℕ) → Waits (length s) main levels (judge xs) (judge' xs)) → (at + n ≤ length s → k ≡ unit (s ++ t) at n judge')
+        → Waits (length s) main levels (unit s at n judge) k
+    unit-waits-to k past = unit-to (Waits (length s) main levels) s t at n judge judge' k (λ short. waits soon (past short))
+
+    pub unit-waits :
+        (length s < at + n → (xs : List ℕ) → Beyond (length s) main levels (judge' xs))
+        → ((xs : List ℕ) → Waits (length s) main levels (judge xs) (judge' xs))
+        → Waits (length s) main levels (unit s at n judge) (unit (s ++ t) at n judge')
+    unit-waits past rule =
+        unit-waits-to (unit (s ++ t) at n judge')
+        (λ short. unit-ind (Beyond (length s) main levels) (s ++ t) at n judge' (λ _. refused) (λ _. past short (part (s ++ t) at n)))
+        rule (λ _. refl)

@@ -1,10 +1,11 @@
 -- From the code's walk to what its callers promise: with a table that gives the room, and with none.
-use mathlib.Core.Path.{_≡_, sym, ap, _∙_}
+use mathlib.Core.Path.{_≡_, ap, _∙_}
 use mathlib.Core.List.{List, [], _++_}
 use Prim.Native.Nat.{ℕ, _-_, _*_, _/_}
 use native.Mathlib.Omega.{arith}
 use lib.ListN.{length, take, drop}
 use lib.Seq.{take-all}
+use Rattle.laws.proofs.OneOutcome.{one}
 use Rattle.entry.specs.declared.Entry.{Entry}
 use Rattle.entry.specs.Entry.{size, numbers, write}
 use Rattle.entry.proofs.Table.{write-all}
@@ -53,4 +54,4 @@ pub one-outcome :
     (a : Answer) (before : List ℕ) (n p k n' p' k' : ℕ) (after after' : List ℕ)
     → Lists a before n p k after → Lists a before n' p' k' after' → (n ≡ n') × (p ≡ p') × (k ≡ k') × (after ≡ after')
 one-outcome a before n p k n' p' k' after after' x y =
-    (x .number-is ∙ sym (y .number-is), x .place-is ∙ sym (y .place-is), x .count-is ∙ sym (y .count-is), x .table-is ∙ sym (y .table-is))
+    (one (x .number-is) (y .number-is), one (x .place-is) (y .place-is), one (x .count-is) (y .count-is), one (x .table-is) (y .table-is))

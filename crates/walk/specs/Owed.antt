@@ -1,4 +1,4 @@
--- What the rules owe the walk: two facts of one step. All that stands in Promised.antt follows for any rules that pay them.
+-- What the rules owe the walk: facts of one step. What stands in Promised.antt follows for any rules that pay them.
 use mathlib.Core.Path.{_≡_}
 use mathlib.Core.List.{List, _++_}
 use Prim.Native.Nat.{ℕ, suc, _+_, _≤_, _<_}
@@ -28,10 +28,10 @@ pub record Opens (len at end levels : ℕ) (e : Entry) (inside after : ℕ) : Ty
   pub within : after ≤ end
   pub deep : 0 < levels
 
--- a refusal's place is the one looked at, or a later one
+-- a refusal's place is the one looked at, or a later one; 12 is the room's own number, which no rule says
 pub data Moves {S : Type 0} (len main at end levels : ℕ) : Step S → Type 0 where
   ends : {p : ℕ} → Ends len main at end levels p → Moves len main at end levels (Stop 0 p)
-  stops : {n p : ℕ} → at ≤ p → Moves len main at end levels (Stop (suc n) p)
+  stops : {n p : ℕ} → at ≤ p → (suc n ≡ 12 → ⊥) → Moves len main at end levels (Stop (suc n) p)
   leaf : {e : Entry} {next : ℕ} {q : S} → Owns len at end e next → Moves len main at end levels (Leaf e next q)
   nest : {e : Entry} {inside after : ℕ} {q : S} → Opens len at end levels e inside after → Moves len main at end levels (Nest e inside q after)
 
@@ -53,14 +53,17 @@ abbrev pub MovesOn : {S : Type 0} → ℕ → ℕ → Look S → Type 0
 MovesOn {S} main len look = (st : S) (at end levels : ℕ) → at ≤ end → levels ≤ main → Moves len main at end levels (look st at end levels)
 
 abbrev pub KeepsOn : {S : Type 0} → ℕ → Look S → Look S → Type 0
-KeepsOn {S} main look look' = (st : S) (at end levels : ℕ) → Keeps main levels (look st at end levels) (look' st at end levels)
+KeepsOn {S} main look look' =
+    (st : S) (at end levels : ℕ) → at ≤ end → levels ≤ main → Keeps main levels (look st at end levels) (look' st at end levels)
 
 pub record Rules {S : Type 0} (main : ℕ) (look : List ℕ → Look S) : Type 0 where
   pub nested : 0 < main
   pub moves : (s : List ℕ) → MovesOn main (length s) (look s)
   pub keeps : (s t : List ℕ) → KeepsOn main (look s) (look (s ++ t))
 
--- ### Apart from these: an entry is listed once its own bytes are there
+-- ### More than that: an entry is listed once its own bytes are there
+
+-- Only what two inputs with a common beginning have in common asks for it. Rules that wait so also keep (`waits-keeps`).
 
 -- no entry here, or one that owns bytes beyond the first len
 pub data Beyond {S : Type 0} (len main levels : ℕ) : Step S → Type 0 where
@@ -69,13 +72,14 @@ pub data Beyond {S : Type 0} (len main levels : ℕ) : Step S → Type 0 where
   leaf-past : {e : Entry} {next : ℕ} {q : S} → len < next → Beyond len main levels (Leaf e next q)
   nest-past : {e : Entry} {inside after : ℕ} {q : S} → len < inside → Beyond len main levels (Nest e inside q after)
 
--- where the first len bytes of the input end too soon, bytes beyond them are needed
-abbrev pub Awaits : {S : Type 0} → ℕ → ℕ → ℕ → Step S → Step S → Type 0
-Awaits len main levels k k' = (p : ℕ) → k ≡ Stop 2 p → Beyond len main levels k'
+-- the step on a beginning of len bytes, and on the whole: where the first may change, the second needs more than these bytes
+pub data Waits {S : Type 0} (len main levels : ℕ) : Step S → Step S → Type 0 where
+  stays : (k : Step S) → Waits len main levels k k
+  waits : {n p : ℕ} {k : Step S} → Unsure main levels n → Beyond len main levels k → Waits len main levels (Stop n p) k
 
-abbrev pub AwaitsOn : {S : Type 0} → ℕ → ℕ → Look S → Look S → Type 0
-AwaitsOn {S} main len look look' =
-    (st : S) (at end levels : ℕ) → at ≤ end → levels ≤ main → Awaits len main levels (look st at end levels) (look' st at end levels)
+abbrev pub WaitsOn : {S : Type 0} → ℕ → ℕ → Look S → Look S → Type 0
+WaitsOn {S} main len look look' =
+    (st : S) (at end levels : ℕ) → at ≤ end → levels ≤ main → Waits len main levels (look st at end levels) (look' st at end levels)
 
 pub record Prompt {S : Type 0} (main : ℕ) (look : List ℕ → Look S) : Type 0 where
-  pub awaits : (s t : List ℕ) → AwaitsOn main (length s) (look s) (look (s ++ t))
+  pub waiting : (s t : List ℕ) → WaitsOn main (length s) (look s) (look (s ++ t))

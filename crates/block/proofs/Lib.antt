@@ -1,0 +1,3 @@
+-- Laws that several judges cite.
+pub mod Judging
+pub mod Passed

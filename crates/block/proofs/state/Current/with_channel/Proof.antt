@@ -1,0 +1,21 @@
+use Prim.Native.Nat.{_-_}
+use borrow.Author.Needs.{needs}
+use Rattle.block.specs.State.{channelBy}
+use Rattle.block.proofs.state.Current.with_channel.Statement.{statement}
+use Rattle.block.proofs.state.Current.with_channel.Tie as tie
+
+returns : tie.Need-returns
+unfolding channelBy
+returns c =
+    let l = c .before .before .args .self in
+    λ i. record {
+      number = l .number;
+      left = l .left - 1;
+      codes = c .before .with .ensures i;
+      colour = l .colour;
+      transparency = l .transparency;
+      user = l .user;
+    }
+
+pub with-channel-spec : {M : Type 1} → statement M
+with-channel-spec = tie.close (tie.spec (λ c κs. search needs) (λ c. search needs) returns)
