@@ -1,3 +1,4 @@
 -- Laws that several judges cite.
 pub mod Judging
 pub mod Passed
+pub mod Placed

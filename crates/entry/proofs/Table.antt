@@ -8,7 +8,7 @@ use lib.ListN.{length, take, drop, length-append, length-take}
 use Rattle.laws.specs.Lists.{over}
 use Rattle.laws.proofs.Choice.{pick-yes, pick-no}
 use Rattle.entry.specs.declared.Entry.{Entry}
-use Rattle.entry.specs.Entry.{size, numbersOf, numbers, stored, write}
+use Rattle.entry.specs.Entry.{size, numbersOf, numbers, stored, keep, write}
 use Rattle.laws.proofs.Over.{over-length, over-none, over-front, over-over}
 
 pub numbers-length : (es : List Entry) → length (numbers es) ≡ size * length es
@@ -29,12 +29,12 @@ stored-past t i e h = pick-no _ _ _ (le-ltb i (length t / size) h)
 -- ### Entries from the i-th on, of which there is place for `left`
 
 write-past : (es : List Entry) (t : List ℕ) (i : ℕ) → length t / size ≤ i → write t i es ≡ t
-unfolding write
+unfolding keep
 write-past [] t i h = refl
 write-past (e ∷ es) t i h = ap (λ (x : List ℕ). write x (i + 1) es) (stored-past t i e h) ∙ write-past es t (i + 1) (omega arith)
 
 write-from : (es : List Entry) (t : List ℕ) (i left : ℕ) → i + left ≡ length t / size → write t i es ≡ over t (i * size) (numbers (take left es))
-unfolding write numbers
+unfolding keep numbers
 write-from es t i zero h = write-past es t i (omega arith) ∙ sym (over-none t (i * size))
 write-from [] t i (suc left) h = sym (over-none t (i * size))
 write-from (e ∷ es) t i (suc left) h =

@@ -25,7 +25,11 @@ numbers (e ∷ es) = numbersOf e ++ numbers es
 unfoldable pub stored : List ℕ → ℕ → Entry → List ℕ
 stored t index e = pick (ltb index (length t / size)) (over t (index * size) (numbersOf e)) t
 
+-- what is kept of entries, from the index-th on: `put` says what is kept of one
+unfoldable pub keep : {K : Type 0} → (K → ℕ → Entry → K) → K → ℕ → List Entry → K
+keep put k index [] = k
+keep put k index (e ∷ es) = keep put (put k index e) (index + 1) es
+
 -- t with entries from the index-th on, where t reaches
-unfoldable pub write : List ℕ → ℕ → List Entry → List ℕ
-write t index [] = t
-write t index (e ∷ es) = write (stored t index e) (index + 1) es
+abbrev pub write : List ℕ → ℕ → List Entry → List ℕ
+write = keep stored
