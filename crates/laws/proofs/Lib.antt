@@ -3,6 +3,7 @@ pub mod Choice
 pub mod Tests
 pub mod Over
 pub mod Part
+pub mod Indexed
 pub mod Written
 pub mod Stored
 pub mod Front

@@ -5,8 +5,8 @@ use Prim.Native.Nat.{ℕ, suc, _+_, _-_, _<_, _≤_}
 use native.Mathlib.Nat.{add-sub-of-le, zero-add}
 use native.Mathlib.Numerals.{add-one}
 use native.Mathlib.Omega.{arith}
-use lib.ListN.{length, take, drop, set, length-append, length-drop, take-append-drop}
-use lib.Seq.{take-at, drop-at, drop-drop, length-take-le, set-split, append-snoc}
+use lib.ListN.{length, take, drop, set, getD, length-append, length-drop, take-append-drop, List·getD-append}
+use lib.Seq.{take-at, drop-at, drop-drop, length-take-le, set-split, append-snoc, getD-append-add, getD-take, getD-drop}
 use Rattle.laws.specs.Lists.{over}
 
 module _ {A : Type 0} where
@@ -38,6 +38,32 @@ module _ {A : Type 0} where
     over-length =
         length-append (take i t ++ xs) (drop (i + length xs) t)
         ∙ omega (arith, front, length-drop (i + length xs) t)
+
+    -- its elements: before the place, from the place on, and behind what is written
+    module _ (d : A) where
+      pub over-before : (k : ℕ) → k < i → getD (over t i xs) k d ≡ getD t k d
+      unfolding over
+      over-before k low =
+          let some = length-take-le i t (omega arith) in
+          List·getD-append (take i t ++ xs) (drop (i + length xs) t) d k (omega (arith, front))
+          ∙ List·getD-append (take i t) xs d k (omega (arith, some))
+          ∙ getD-take i t k d low
+
+      pub over-within : (k : ℕ) → k < length xs → getD (over t i xs) (i + k) d ≡ getD xs k d
+      unfolding over
+      over-within k low =
+          List·getD-append (take i t ++ xs) (drop (i + length xs) t) d (i + k) (omega (arith, front))
+          ∙ ap (λ (n : ℕ). getD (take i t ++ xs) (n + k) d) (sym (length-take-le i t (omega arith)))
+          ∙ getD-append-add (take i t) xs k d
+
+      pub over-behind : (k : ℕ) → i + length xs ≤ k → getD (over t i xs) k d ≡ getD t k d
+      over-behind k le =
+          let here : k + 0 ≡ k = omega arith in
+          ap (λ (n : ℕ). getD (over t i xs) n d) (sym here)
+          ∙ sym (getD-drop k (over t i xs) 0 d)
+          ∙ ap (λ (l : List A). getD l 0 d) (over-drop k le)
+          ∙ getD-drop k t 0 d
+          ∙ ap (λ (n : ℕ). getD t n d) here
 
   -- nothing written
   pub over-none : (t : List A) (i : ℕ) → over t i [] ≡ t

@@ -1,6 +1,6 @@
--- Parts of a list, and a list that is written from a place on.
-use Prim.Native.Nat.{ℕ, _+_}
-use mathlib.Core.List.{List, _++_}
+-- Parts of a list, a list that is written from a place on, and one that is changed element by element.
+use Prim.Native.Nat.{ℕ, suc, _+_}
+use mathlib.Core.List.{List, [], _∷_, _++_}
 use lib.ListN.{length, take, drop}
 
 module _ {A : Type 0} where
@@ -11,3 +11,8 @@ module _ {A : Type 0} where
   -- l with xs in place of as many elements from a place on
   unfoldable pub over : List A → ℕ → List A → List A
   over l at xs = take at l ++ xs ++ drop (at + length xs) l
+
+  -- each element by its index and itself; the first one's index is given
+  unfoldable pub indexed : (ℕ → A → A) → ℕ → List A → List A
+  indexed f k [] = []
+  indexed f k (x ∷ xs) = f k x ∷ indexed f (suc k) xs

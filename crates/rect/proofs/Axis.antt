@@ -31,6 +31,23 @@ distance (negsuc a) (negsuc b) h =
     let order = leb-true b a (h .order) in
     sub-is (suc a) (suc b) (omega arith) ∙ at (omega (arith, leb-true a 32767 (h .low)))
 
+-- from a corner to one that is not negative
+pub side-pos : (a b : ℕ) → a ≤ b → sideOf (pos a) (pos b) ≡ b - a
+unfolding sideOf
+side-pos zero b h = omega arith
+side-pos (suc a) b h = ap natAbs (sub-is b (suc a) h)
+
+pub side-neg : (a b : ℕ) → sideOf (negsuc a) (pos b) ≡ b + suc a
+unfolding sideOf
+side-neg a b = refl
+
+-- the distance grows by what the further corner moves on
+pub side-on : (a : ℤ) (b n : ℕ) → leZ a (pos b) ≡ true → b ≤ n → sideOf a (pos n) ≡ sideOf a (pos b) + (n - b)
+side-on (pos a) b n h k =
+    let low = leb-true a b h in
+    omega (arith, side-pos a n (omega arith), side-pos a b low)
+side-on (negsuc a) b n h k = omega (arith, side-neg a n, side-neg a b)
+
 pub near : (a b : ℤ) → Span a b → sideOf a b < 65536
 unfolding sideOf
 near a b h = subst⁻¹ (λ (z : ℤ). natAbs z < 65536) (distance a b h) (below a b h)

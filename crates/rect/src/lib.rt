@@ -14,6 +14,7 @@ pub use rules::proper;
 pub use rules::saved;
 pub use rules::within;
 pub use sides::height;
+pub use sides::side;
 pub use sides::width;
 ghost use mathlib.Core.Path.{_≡_};
 ghost use Prim.Native.Nat.{_+_, _≤_};

@@ -5,7 +5,7 @@ ghost use Prim.Native.Nat.{_<_};
 ghost use Rattle.rect.specs.Rect.{Span, Proper, sideOf, widthOf, heightOf};
 
 // The distance of two corners in order.
-fn side(from: i32, to: i32) -> u32
+pub fn side(from: i32, to: i32) -> u32
     requires { ⌜ Span from to ⌝ }
     ensures { λ r. ⌜ (r ≡ sideOf from to) × (r < 65536) ⌝ }
 {

@@ -1,0 +1,8 @@
+-- Laws of placing: a block of rows, the corners that an axis and a canvas side share, the canvas's pixels, the clipped block, the tests and the answers.
+pub mod Block
+pub mod Axes
+pub mod Pixels
+pub mod Clipped
+pub mod PlaceTests
+pub mod Answers
+pub mod Twice

@@ -1,0 +1,98 @@
+-- What placing means, pixel by pixel, over the definition: for every canvas, rectangle, plane and row length.
+use mathlib.Core.Path.{_≡_, ap₂, _∙_}
+use mathlib.Core.Bool.{true, false}
+use mathlib.Core.List.{List}
+use Prim.Native.Nat.{ℕ, _+_, _*_, _/_, _%_, _<_}
+use native.Mathlib.Nat.{mul-comm, mul-add-div-right, mul-add-mod-self-right, div-eq-of-lt, mod-eq-of-lt}
+use native.Mathlib.Omega.{arith}
+use borrow.Author.Tests.{ltb-true}
+use lib.IntN.{ℤ, pos, negsuc}
+use lib.ListN.{length, getD}
+use lib.Signed.{leZ, ltZ}
+use Rattle.laws.proofs.Choice.{pick-yes, pick-no}
+use Rattle.laws.proofs.Indexed.{indexed-length, indexed-at, indexed-is}
+use Rattle.laws.proofs.Tests.{never, both}
+use Rattle.rect.specs.declared.Rect.{Rect}
+use Rattle.rect.specs.Rect.{sideOf, widthOf, heightOf}
+use Rattle.rect.specs.Shared.{hasPixel}
+use Rattle.rect.proofs.Axis.{side-on}
+use Rattle.canvas.specs.Placing.{byteOf, pixelOf, onCanvas}
+use Rattle.canvas.specs.Blocks.{Fit}
+use Rattle.canvas.proofs.Block.{next}
+
+module _ (width row : ℕ) (r : Rect) (plane canvas : List ℕ) where
+  abbrev after : List ℕ
+  after = onCanvas width row r plane canvas
+
+  -- byte k before and after
+  abbrev changed : ℕ → ℕ → ℕ
+  changed k = pixelOf r row plane (pos (k % width)) (pos (k / width))
+
+  -- the length is unchanged
+  pub placed-length : length after ≡ length canvas
+  unfolding onCanvas
+  placed-length = indexed-length changed 0 canvas
+
+  pub placed-at : (k : ℕ) → k < length canvas → getD after k 0 ≡ changed k (getD canvas k 0)
+  unfolding onCanvas
+  placed-at k h = indexed-at changed canvas k 0 h
+
+  pub placed-is :
+      (l : List ℕ) → length l ≡ length canvas → ((k : ℕ) → k < length canvas → getD l k 0 ≡ changed k (getD canvas k 0)) → l ≡ after
+  unfolding onCanvas
+  placed-is l e same = indexed-is changed 0 canvas l e same
+
+  -- the pixel (x, y) of a canvas is byte y * width + x
+  module _ (height : ℕ) (long : length canvas ≡ width * height) (x y : ℕ) (x-low : x < width) (y-low : y < height) where
+    there : y * width + x < length canvas
+    there = omega (arith, next y height width y-low, mul-comm width height)
+
+    column : (y * width + x) % width ≡ x
+    column = mul-add-mod-self-right y width x ∙ mod-eq-of-lt x-low
+
+    line : (y * width + x) / width ≡ y
+    line =
+        let none : x / width ≡ 0 = div-eq-of-lt x-low in
+        mul-add-div-right (omega arith) y x ∙ omega arith
+
+    pixel : getD after (y * width + x) 0 ≡ pixelOf r row plane (pos x) (pos y) (getD canvas (y * width + x) 0)
+    pixel =
+        placed-at (y * width + x) there
+        ∙ ap₂ (λ (i j : ℕ). pixelOf r row plane (pos i) (pos j) (getD canvas (y * width + x) 0)) column line
+
+    -- inside the rectangle it takes its byte of the plane
+    pub pixel-inside :
+        hasPixel r (pos x) (pos y) ≡ true → getD after (y * width + x) 0 ≡ getD plane (byteOf r row (pos x) (pos y)) 0
+    pixel-inside h = pixel ∙ pick-yes _ _ _ h
+
+    -- and outside it is what it was
+    pub pixel-outside : hasPixel r (pos x) (pos y) ≡ false → getD after (y * width + x) 0 ≡ getD canvas (y * width + x) 0
+    pixel-outside h = pixel ∙ pick-no _ _ _ h
+
+-- a pixel between two corners
+between : (a b : ℤ) (x : ℕ) → leZ a (pos x) ≡ true → ltZ (pos x) b ≡ true → sideOf a (pos x) < sideOf a b
+between a (negsuc b) x h k = never k
+between a (pos b) x h k =
+    let low = ltb-true x b k in
+    omega (arith, side-on a x b h (omega arith))
+
+-- the byte of a pixel inside stands before the padding of its row, and in the plane
+pub record Held (r : Rect) (plane : List ℕ) (row x y : ℕ) : Type 0 where
+  pub unpadded : sideOf (r .left) (pos x) < widthOf r
+  pub high : sideOf (r .top) (pos y) < heightOf r
+  pub inside : byteOf r row (pos x) (pos y) < length plane
+
+pub pixel-held :
+    {width height : ℕ} {canvas : List ℕ} {r : Rect} {plane : List ℕ} {row : ℕ} → Fit width height canvas r plane row
+    → (x y : ℕ) → hasPixel r (pos x) (pos y) ≡ true → Held r plane row x y
+pixel-held {r = r} {plane} {row} fit x y h =
+    let parts = both _ _ h in
+    let across = both _ _ (parts .0) in
+    let down = both _ _ (parts .1) in
+    let w = between (r .left) (r .right) x (across .0) (across .1) in
+    let v = between (r .top) (r .bottom) y (down .0) (down .1) in
+    record {
+      unpadded = w;
+      high = v;
+      inside = omega (arith, next (sideOf (r .top) (pos y)) (heightOf r) row v, mul-comm row (heightOf r), fit .whole, fit .holds);
+    }

@@ -1,0 +1,64 @@
+-- What `place` leaves, by the tests that lead there, and what the passed tests say.
+use mathlib.Core.Path.{_≡_, ap, _∙_}
+use mathlib.Core.Bool.{true, false, not}
+use mathlib.Core.List.{List}
+use Prim.Native.Nat.{ℕ}
+use native.Mathlib.Omega.{arith}
+use borrow.Author.Tests.{leb-true, eqb-true, eq-eqb, ne-eqb}
+use lib.ListN.{length}
+use Rattle.laws.specs.Results.{Result}
+use Rattle.laws.proofs.Choice.{pick-yes, pick-no}
+use Rattle.laws.proofs.Tests.{both}
+use Rattle.rect.specs.declared.Rect.{Rect}
+use Rattle.rect.specs.Rect.{widthOf, isWithin}
+use Rattle.rect.specs.Rows.{rowOf, planeOf}
+use Rattle.rect.proofs.Tests.{within-sized}
+use Rattle.rect.proofs.Rows.{holds}
+use Rattle.canvas.specs.Placing.{isCanvas, untouched, onCanvas, placed}
+use Rattle.canvas.specs.Blocks.{Fit}
+
+module _ (width height : ℕ) (canvas : List ℕ) (r : Rect) (plane : List ℕ) where
+  abbrev said : Result ℕ
+  said = placed width height canvas r plane
+
+  pub bad-canvas : isCanvas width height (length canvas) ≡ false → said ≡ untouched 40 canvas
+  unfolding placed
+  bad-canvas h = pick-yes _ _ _ (ap not h)
+
+  module _ (canvas-fits : isCanvas width height (length canvas) ≡ true) where
+    pub bad-rect : isWithin r ≡ false → said ≡ untouched 41 canvas
+    unfolding placed
+    bad-rect h = pick-no _ _ _ (ap not canvas-fits) ∙ pick-yes _ _ _ (ap not h)
+
+    module _ (within : isWithin r ≡ true) where
+      pub bad-plane : (length plane ≡ planeOf r 8 → ⊥) → said ≡ untouched 42 canvas
+      unfolding placed
+      bad-plane h =
+          pick-no _ _ _ (ap not canvas-fits) ∙ pick-no _ _ _ (ap not within) ∙ pick-yes _ _ _ (ap not (ne-eqb (length plane) (planeOf r 8) h))
+
+      module _ (whole : length plane ≡ planeOf r 8) where
+        pub all-well : said ≡ record { told = 0; dest = onCanvas width (rowOf (widthOf r) 8) r plane canvas }
+        unfolding placed
+        all-well =
+            pick-no _ _ _ (ap not canvas-fits)
+            ∙ pick-no _ _ _ (ap not within)
+            ∙ pick-no _ _ _ (ap not (eq-eqb (length plane) (planeOf r 8) whole))
+
+        -- a row of 8 bits a pixel holds the rectangle's pixels
+        pub fit : Fit width height canvas r plane (rowOf (widthOf r) 8)
+        unfolding planeOf
+        fit =
+            let h₄ = both _ _ canvas-fits in
+            let h₃ = both _ _ (h₄ .0) in
+            let h₂ = both _ _ (h₃ .0) in
+            let h₁ = both _ _ (h₂ .0) in
+            let low = leb-true 1 width (h₁ .0) in
+            record {
+              some = omega arith;
+              wide = leb-true _ _ (h₁ .1);
+              high = leb-true _ _ (h₃ .1);
+              long = eqb-true _ _ (h₄ .1);
+              sized = within-sized r within;
+              holds = omega (arith, holds (widthOf r) 8 .0);
+              whole = whole;
+            }

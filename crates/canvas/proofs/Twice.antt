@@ -1,0 +1,74 @@
+-- Placing one plane twice equals placing it once.
+use mathlib.Core.Path.{_≡_, refl, sym, ap, _∙_}
+use mathlib.Core.Bool.{Bool, true, false}
+use mathlib.Core.List.{List}
+use Prim.Native.Nat.{ℕ, _/_, _%_}
+use native.Mathlib.Omega.{arith}
+use borrow.Author.Tests.{eqb-true, eqb-false}
+use lib.Dec.{eqb}
+use lib.IntN.{pos}
+use lib.ListN.{length, getD}
+use Rattle.laws.specs.Choice.{pick}
+use Rattle.laws.specs.Results.{Result}
+use Rattle.laws.proofs.Choice.{pick-yes, pick-no, pick-ind}
+use Rattle.rect.specs.declared.Rect.{Rect}
+use Rattle.rect.specs.Rect.{isWithin, widthOf}
+use Rattle.rect.specs.Rows.{rowOf, planeOf}
+use Rattle.rect.specs.Shared.{hasPixel}
+use Rattle.canvas.specs.Placing.{isCanvas, byteOf, pixelOf, onCanvas, placed}
+use Rattle.canvas.proofs.Pixels.{placed-length, placed-at, placed-is}
+use Rattle.canvas.proofs.PlaceTests.{bad-canvas, bad-rect, bad-plane, all-well}
+
+-- a choice made twice is the choice made once
+again : {A : Type 0} (b : Bool) (x y : A) → pick b x y ≡ pick b x (pick b x y)
+again b x y = pick-ind (λ z. z ≡ pick b x z) b x y (λ h. sym (pick-yes b x x h)) (λ h. sym (pick-no b x y h))
+
+pub placed-twice :
+    (width row : ℕ) (r : Rect) (plane canvas : List ℕ)
+    → onCanvas width row r plane (onCanvas width row r plane canvas) ≡ onCanvas width row r plane canvas
+placed-twice width row r plane canvas =
+    let once = onCanvas width row r plane canvas in
+    sym
+    (placed-is width row r plane once once refl
+    (λ k h.
+    let e = placed-at width row r plane canvas k (omega (arith, placed-length width row r plane canvas)) in
+    let x = pos (k % width) in
+    let y = pos (k / width) in
+    e ∙ again (hasPixel r x y) (getD plane (byteOf r row x y) 0) (getD canvas k 0) ∙ ap (pixelOf r row plane x y) (sym e)))
+
+-- and so do number and canvas of the whole call, whatever its arguments
+pub place-twice :
+    (width height : ℕ) (canvas : List ℕ) (r : Rect) (plane : List ℕ)
+    → placed width height (placed width height canvas r plane .dest) r plane ≡ placed width height canvas r plane
+place-twice width height canvas r plane = by-canvas (isCanvas width height (length canvas)) refl
+  where
+    row : ℕ
+    row = rowOf (widthOf r) 8
+
+    on : List ℕ
+    on = onCanvas width row r plane canvas
+
+    next : Result ℕ → Result ℕ
+    next s = placed width height (s .dest) r plane
+
+    by-plane :
+        isCanvas width height (length canvas) ≡ true → isWithin r ≡ true → (b : Bool) → eqb (length plane) (planeOf r 8) ≡ b
+        → next (placed width height canvas r plane) ≡ placed width height canvas r plane
+    by-plane c w true h =
+        let whole = eqb-true _ _ h in
+        let e = all-well width height canvas r plane c w whole in
+        let c′ = ap (isCanvas width height) (placed-length width row r plane canvas) ∙ c in
+        let twice : _≡_ {A = Result ℕ} (record { told = 0; dest = onCanvas width row r plane on }) (record { told = 0; dest = on }) =
+        λ i. record { told = 0; dest = placed-twice width row r plane canvas i } in
+        ap next e ∙ all-well width height on r plane c′ w whole ∙ twice ∙ sym e
+    by-plane c w false h = ap next (bad-plane width height canvas r plane c w (eqb-false _ _ h))
+
+    by-rect :
+        isCanvas width height (length canvas) ≡ true → (b : Bool) → isWithin r ≡ b
+        → next (placed width height canvas r plane) ≡ placed width height canvas r plane
+    by-rect c true h = by-plane c h (eqb (length plane) (planeOf r 8)) refl
+    by-rect c false h = ap next (bad-rect width height canvas r plane c h)
+
+    by-canvas : (b : Bool) → isCanvas width height (length canvas) ≡ b → next (placed width height canvas r plane) ≡ placed width height canvas r plane
+    by-canvas true h = by-rect h (isWithin r) refl
+    by-canvas false h = ap next (bad-canvas width height canvas r plane h)
