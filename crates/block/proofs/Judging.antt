@@ -25,3 +25,16 @@ permitted-none chunk rest e = ap (λ (f : Fault). permitted f chunk rest) e
 pub permitted-at : {f : Fault} {offset : ℕ} (chunk : ℕ) (rest : Step State) → f ≡ At offset → permitted f chunk rest ≡ Stop 8 chunk
 unfolding permitted
 permitted-at chunk rest e = ap (λ (f : Fault). permitted f chunk rest) e
+
+-- what holds of 8 and of the rest holds of the judgement, and so does a relation between two
+pub permitted-ind : (P : Step State → Type 0) (f : Fault) (chunk : ℕ) (rest : Step State) → P (Stop 8 chunk) → P rest → P (permitted f chunk rest)
+unfolding permitted
+permitted-ind P None chunk rest bad good = good
+permitted-ind P (At offset) chunk rest bad good = bad
+
+pub permitted-ind₂ :
+    (P : Step State → Step State → Type 0) (f : Fault) (chunk : ℕ) (rest rest' : Step State)
+    → P (Stop 8 chunk) (Stop 8 chunk) → P rest rest' → P (permitted f chunk rest) (permitted f chunk rest')
+unfolding permitted
+permitted-ind₂ P None chunk rest rest' bad good = good
+permitted-ind₂ P (At offset) chunk rest rest' bad good = bad

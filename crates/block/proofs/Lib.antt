@@ -2,3 +2,5 @@
 pub mod Judging
 pub mod Passed
 pub mod Placed
+pub mod Stepped
+pub mod Owed

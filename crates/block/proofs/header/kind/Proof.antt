@@ -3,7 +3,7 @@ use borrow.Author.Tests.{eq-eqb, ne-eqb}
 use borrow.Author.Needs.{needs}
 use Rattle.laws.proofs.Choice.{pick-yes, pick-no}
 use Rattle.block.specs.Step.{kindOf}
-use Rattle.block.proofs.Passed.{layer-room, channel-room, is-channel}
+use Rattle.block.proofs.Passed.{layer-room, channel-room, lengths, is-channel}
 use Rattle.block.proofs.header.kind.Statement.{statement}
 use Rattle.block.proofs.header.kind.Tie as tie
 
@@ -54,7 +54,7 @@ channel-block-requires : tie.Need-channel-block-requires
 channel-block-requires c κs =
     let start = c .before .before .before .before .before .before .before .before .before .before in
     let a = start .args in
-    let five = is-channel (a .place) (a .h) (start .pre .2) (c .before .before .before .before .before .before .before .before .if1 .left) (c .before .before .before .before .before .before .if2 .left) (c .before .before .before .before .if3 .left) (c .before .before .if4 .left) (c .if5 .left) in
+    let five = is-channel (lengths (a .place) (a .h) (start .pre .2)) (c .before .before .before .before .before .before .before .before .if1 .left) (c .before .before .before .before .before .before .if2 .left) (c .before .before .before .before .if3 .left) (c .before .before .if4 .left) (c .if5 .left) in
     (start .pre .0, channel-room (a .st) (a .h .id) (start .pre .1) five)
 
 returns-6 : tie.Need-returns-6
