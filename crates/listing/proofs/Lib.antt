@@ -1,0 +1,3 @@
+-- Laws of the listing.
+pub mod Numbers
+pub mod Leaves
