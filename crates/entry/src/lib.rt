@@ -5,6 +5,7 @@ ghost use lib.ListN.{length};
 ghost use Rattle.laws.specs.Lists.{over};
 ghost use Rattle.entry.specs.Entry.{size, numbersOf, stored};
 
+#[repr(C)]
 pub struct Entry {
     pub id: u32,
     pub skipped: u32,

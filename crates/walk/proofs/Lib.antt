@@ -8,6 +8,7 @@ pub mod Turns
 pub mod Whole
 pub mod Invariant
 pub mod Tiling
+pub mod Owners
 pub mod EachEntry
 pub mod Prefix
 pub mod Agree

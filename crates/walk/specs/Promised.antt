@@ -1,7 +1,7 @@
 -- The claims of a listing that follow from what the rules owe.
 use mathlib.Core.Path.{_≡_}
 use mathlib.Core.List.{List, [], _∷_, _++_}
-use Prim.Native.Nat.{ℕ, _+_, _≤_}
+use Prim.Native.Nat.{ℕ, suc, _+_, _≤_, _<_}
 use lib.ListN.{length}
 use Rattle.laws.specs.Front.{Front}
 use Rattle.entry.specs.declared.Entry.{Entry}
@@ -23,6 +23,17 @@ pub record Found (a : ℕ) (r : Answer) : Type 0 where
   pub upto : ℕ
   pub tiles : Tiles a (r .entries) upto
   pub before : upto ≤ r .place
+
+-- the i-th entry owns byte k
+pub data Owner (k : ℕ) : List Entry → ℕ → Type 0 where
+  here : {e : Entry} {es : List Entry} → e .place ≤ k → k < e .place + e .owned → Owner k (e ∷ es) 0
+  there : {e : Entry} {es : List Entry} {i : ℕ} → Owner k es i → Owner k (e ∷ es) (suc i)
+
+-- one entry owns byte k, and no other
+pub record OneOwner (k : ℕ) (es : List Entry) : Type 0 where
+  pub index : ℕ
+  pub owns : Owner k es index
+  pub only : (j : ℕ) → Owner k es j → j ≡ index
 
 -- ### The room
 

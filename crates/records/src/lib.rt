@@ -1,0 +1,42 @@
+// Entry records (document 01, "The table"): a table's entries, stored in a lent slice, number by number.
+ghost use mathlib.Core.Path.{_≡_};
+ghost use Prim.Native.Nat.{_+_, _*_, _≤_};
+ghost use lib.ListN.{length};
+ghost use Rattle.entry.specs.Entry.{size};
+ghost use Rattle.records.specs.Records.{entryAt, recordsOf};
+use entry::Entry;
+
+// The i-th entry of the table.
+pub fn entry_at(table: &[u32], i: usize) -> Entry
+    requires { ⌜ i * size + size ≤ length (now table) ⌝ }
+    ensures { λ r. ⌜ r ≡ entryAt (now (table .entry)) (i * size) ⌝ }
+{
+    let at = i * Entry::SIZE;
+    Entry {
+        id: table[at],
+        skipped: table[at + 1],
+        level: table[at + 2],
+        place: table[at + 3],
+        owned: table[at + 4],
+        layer: table[at + 5],
+        bitmap: table[at + 6],
+        channel: table[at + 7],
+        start: table[at + 8],
+        stored: table[at + 9],
+        width: table[at + 10],
+        height: table[at + 11],
+        plane: table[at + 12],
+    }
+}
+
+// Stores the first `count` entries of the table as the first records; the rest of the records stays as it was.
+pub fn fill(table: &[u32], count: usize, records: &mut [Entry])
+    requires { ⌜ (count * size ≤ length (now table)) × (count ≤ length (now records)) ⌝ }
+    ensures { λ _. ⌜ now (records .exit) ≡ recordsOf (now (table .entry)) count (now (records .entry)) ⌝ }
+{
+    let mut i = 0;
+    while i < count {
+        records[i] = entry_at(table, i);
+        i += 1;
+    }
+}
