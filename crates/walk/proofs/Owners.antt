@@ -21,6 +21,7 @@ first-owner {k} {e} {es} p t low high = record { index = 0; owns = at-first; onl
         let from : e .place ≤ k = omega arith in
         let to : k < e .place + e .owned = omega arith in
         here from to
+
     only : (j : ℕ) → Owner k (e ∷ es) j → j ≡ 0
     only zero o = refl
     only (suc j) (there o) = absurd (omega (arith, owner-above t o))
