@@ -11,6 +11,13 @@ ghost use Rattle.block.specs.Headed.{Headed};
 ghost use Rattle.block.specs.Blocks.{layerBlock};
 ghost use Rattle.block.specs.Step.{told};
 
+// A layer's number is its rank in file order. Its name has no say in it.
+fn number_of(st: State, _name: [u8; 256]) -> u32
+    ensures { λ r. ⌜ r ≡ st .found ⌝ }
+{
+    st.found
+}
+
 pub fn layer_block(s: &[u8], st: State, total: u32, at: usize, level: usize) -> Step
     requires { ⌜ (Headed (now s) at level) × (st .found < st .image .layers) ⌝ }
     ensures { λ r. ⌜ told r ≡ layerBlock (now (s .entry)) st total at level ⌝ }
@@ -33,7 +40,9 @@ pub fn layer_block(s: &[u8], st: State, total: u32, at: usize, level: usize) -> 
             place: chunk,
         },
         Fault::None => {
-            let entry = entry_of(4, 0, level, at, owned, st.found, 0, 0);
+            let name = c.name;
+            let number = number_of(st, name);
+            let entry = entry_of(4, 0, level, at, owned, number, 0, 0);
             let state = st.with_layer(c);
             let after = chunk + total as usize;
             Step::Nest {

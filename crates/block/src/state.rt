@@ -95,11 +95,12 @@ impl Current {
     {
         let image = c.image;
         let mask = c.mask;
+        let bits = depth::bits(depth);
         Current {
             number,
             left: c.channels,
             codes: Codes::none(),
-            colour: size_of(image.saved, depth::bits(depth)),
+            colour: size_of(image.saved, bits),
             transparency: size_of(image.saved, 8),
             user: size_of(mask.saved, 8),
         }

@@ -8,7 +8,7 @@ use Rattle.walk.proofs.Unit.{unit-soon, unit-there}
 use Rattle.chunk.specs.declared.fault.Fault.{Fault}
 use Rattle.chunk.specs.LayerInformation.{layerOf}
 use Rattle.chunk.proofs.Rules.{layer-rules}
-use Rattle.block.specs.Blocks.{permitted, layerRead, layerJudged, layerBlock}
+use Rattle.block.specs.Blocks.{entryOf, permitted, layerRead, layerJudged, layerBlock}
 use Rattle.block.proofs.Judging.{unit-judged, permitted-none, permitted-at}
 use Rattle.block.proofs.layer.layer_block.Statement.{statement}
 use Rattle.block.proofs.layer.layer_block.Tie as tie
@@ -36,18 +36,24 @@ judged c =
 
 with-layer-requires : tie.Need-with-layer-requires
 with-layer-requires c κs =
-    let judge = c .before .before .before in
-    let start = c .before .before .before .before .before .before .before .before in
-    (layer-rules (start .args .st .image .depth) (judge .before .before .decode .result) (sym (judge .judge .ensures) ∙ c .before .enum-told2 .given .1), start .pre .1)
+    let judge = c .before .before .before .before .before in
+    let start = c .before .before .before .before .before .before .before .before .before .before in
+    (layer-rules (start .args .st .image .depth) (judge .before .before .decode .result) (sym (judge .judge .ensures) ∙ c .before .before .before .enum-told2 .given .1), start .pre .1)
+
+add-after : tie.Need-add-after
+add-after c =
+    let start = c .before .before .before .before .before .before .before .before .before .before .before in
+    omega (arith, start .pre .0, start .fits .total)
 
 returns-2 : tie.Need-returns-2
 returns-2 c = sym (judged (c .before .before) ∙ permitted-at _ _ (c .enum-told .given .1))
 
 returns-3 : tie.Need-returns-3
 returns-3 c =
-    let a = c .before .before .before .before .before .before .before .before .before .args in
-    (λ i. Nest (c .before .entry-of .ensures i) (a .at + 389) (c .with-layer .ensures i) (a .at + 14 + a .total))
-    ∙ sym (judged (c .before .before .before .before) ∙ permitted-none _ _ (c .before .before .enum-told2 .given .1))
+    let a = c .before .before .before .before .before .before .before .before .before .before .before .args in
+    let entry = c .before .entry-of .ensures ∙ ap (λ (n : ℕ). entryOf 4 0 (a .level) (a .at) 389 n 0 0) (c .before .before .number-of .ensures) in
+    (λ i. Nest (entry i) (a .at + 389) (c .with-layer .ensures i) (a .at + 14 + a .total))
+    ∙ sym (judged (c .before .before .before .before .before .before) ∙ permitted-none _ _ (c .before .before .before .before .enum-told2 .given .1))
 
 pub layer-block-spec : {M : Type 1} → statement M
 layer-block-spec =
@@ -62,7 +68,8 @@ layer-block-spec =
     (λ c. search needs)
     (λ c. search needs)
     (λ c κs. search needs)
+    (λ c κs. search needs)
     with-layer-requires
-    (λ c. search needs)
+    add-after
     returns-2
     returns-3)

@@ -7,12 +7,12 @@ use Rattle.block.proofs.state.Current.by.Tie as tie
 returns : tie.Need-returns
 unfolding layerBy
 returns c =
-    let bits = c .before .before .before .bits in
+    let bits = c .before .before .before .before .bits in
     let a = c .before .before .before .before .before .before .before .args in
     λ i. record {
       number = a .number;
       left = a .c .channels;
-      codes = c .before .before .before .before .none .ensures i;
+      codes = c .before .before .before .none .ensures i;
       colour = (c .before .before .size-of .ensures ∙ ap (sizeOf (a .c .image .saved)) (bits .ensures .0)) i;
       transparency = c .before .size-of2 .ensures i;
       user = c .size-of3 .ensures i;
