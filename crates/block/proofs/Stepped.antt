@@ -70,6 +70,7 @@ module _ (s : List ℕ) (st : State) (at end levels : ℕ) where
 
   pub record IsChannel (e : Entry) (next : ℕ) (q : State) : Type 0 where
     pub chunk : ChannelChunk
+    pub is : chunk ≡ channelOf (part s (at + 14) 12)
     pub begun : Begun st
     pub deepest : levels ≡ 0
     pub room : 0 < st .layer .left
@@ -262,6 +263,7 @@ module _ (s : List ℕ) (st : State) (at end levels : ℕ) where
         unit-ind Stepped s (at + 26) (c .stored) _ (λ _. soon (at + 26) (omega arith)) (λ all.
         leafed (a-channel (record {
           chunk = c;
+          is = refl;
           begun = begun;
           deepest = deepest;
           room = room;
