@@ -1,17 +1,18 @@
 -- The plane reader's answers, each by the tests that lead to it.
-use mathlib.Core.Path.{_≡_, _∙_}
+use mathlib.Core.Path.{_≡_, sym, ap, _∙_}
 use mathlib.Core.List.{List, _++_}
 use Prim.Native.Nat.{ℕ, _+_, _<_, _≤_}
 use borrow.Author.Tests.{lt-ltb, le-ltb, eq-eqb, ne-eqb}
 use lib.Dec.{eqb, ltb}
-use lib.ListN.{length, drop}
+use native.Mathlib.Omega.{arith}
+use lib.ListN.{length, drop, length-append}
 use Rattle.laws.specs.Choice.{pick}
 use Rattle.laws.specs.Lists.{part, over}
 use Rattle.laws.specs.Results.{Result}
 use Rattle.packet.specs.Reading.{Paper, untouched, filled, unpacked, planeRead}
 use Rattle.limits.specs.Limits.{planeLimit}
 use Rattle.laws.proofs.Choice.{pick-yes, pick-no}
-use Rattle.laws.proofs.Part.{part-length}
+use Rattle.laws.proofs.Part.{part-length, part-longer}
 use Rattle.laws.proofs.Over.{over-front}
 
 module _ (input : List ℕ) (start stored plane code : ℕ) (dest : List ℕ) where
@@ -72,3 +73,19 @@ pub copied :
     (input : List ℕ) (start stored plane : ℕ) (dest after : List ℕ) → start + stored ≤ length input → stored ≡ plane
     → after ≡ over dest 0 (part input start stored) → after ≡ part input start stored ++ drop plane dest
 copied input start stored plane dest after h e f = f ∙ over-front dest (part input start stored) plane (part-length input start stored h ∙ e)
+
+-- on more input a stored part that is inside reads the same
+pub plane-longer :
+    (s t : List ℕ) (start stored plane code : ℕ) (dest : List ℕ) → start + stored ≤ length s
+    → planeRead (s ++ t) start stored plane code dest ≡ planeRead s start stored plane code dest
+unfolding planeRead
+plane-longer s t start stored plane code dest there =
+    let rest : List ℕ → Result Paper = λ stream.
+    pick (ltb (length dest) plane) (untouched 20 dest)
+    (pick (eqb code 1) (unpacked stream plane dest) (pick (eqb stored plane) (filled stored plane stream dest) (untouched 25 dest))) in
+    let longer : start + stored ≤ length (s ++ t) = omega (arith, length-append s t) in
+    let same : pick (ltb (length (s ++ t)) (start + stored)) (untouched 27 dest) (rest (part (s ++ t) start stored)) ≡ pick (ltb (length s) (start + stored)) (untouched 27 dest) (rest (part s start stored)) =
+    pick-no _ _ _ (le-ltb (length (s ++ t)) (start + stored) longer)
+    ∙ ap rest (part-longer s t start stored there)
+    ∙ sym (pick-no _ _ _ (le-ltb (length s) (start + stored) there)) in
+    ap (λ (r : Result Paper). pick (ltb 1 code) (untouched 24 dest) (pick (ltb planeLimit plane) (untouched 26 dest) r)) same
