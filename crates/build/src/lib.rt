@@ -1,5 +1,7 @@
 // Puts inputs of the format together in a lent buffer. Each function puts something at a place and answers the place after it; what the
 // buffer has no room for is left out.
+pub mod files;
+
 use chunk::block_header::MARK;
 use chunk::file_header::SIGNATURE;
 

@@ -1,10 +1,10 @@
-// Some 300,000 empty blocks of an unknown id behind a complete start, in 4 MiB: at the main level, in a bank that claims the largest
+// Some 300,000 empty blocks of an unknown id behind the worked file, in 4 MiB: at the main level, in a bank that claims the largest
 // length, and in a layer that covers them all. The walk keeps no table, and its stack does not grow with the blocks.
-use build::Image;
+use build::files;
 use build::made;
 use print::text;
 
-// Bytes of the buffer, and the empty blocks that fit behind the start.
+// Bytes of the buffer, and the empty blocks that fit behind the file.
 const SIZE: usize = 4194304;
 
 const BLOCKS: usize = 299555;
@@ -16,31 +16,13 @@ const LAYER: usize = 112;
 
 const SHORT: u64 = 405;
 
-// A grey image of 1 by 1 pixels with one layer and its channel.
-fn start(b: &mut [u8]) -> usize {
-    let at = build::file_header(b, 0);
-    let grey = Image {
-        width: 1,
-        height: 1,
-        compression: 0,
-        depth: 8,
-        colours: 256,
-        grey: 1,
-        layers: 1,
-    };
-    let at = build::attributes(b, at, grey);
-    let at = build::bank(b, at, 14 + SHORT);
-    let at = build::layer(b, at, SHORT, b"", 1, 1);
-    build::channel(b, at, 0, 0, 4, 4)
-}
-
 fn walked(level: &[u8], input: &[u8]) {
     text(level);
     show::answer(listing::count(input, 300000));
 }
 
 fn run(b: &mut [u8]) {
-    let at = start(b);
+    let at = files::worked(b);
     let n = build::blocks(b, at, 12, BLOCKS);
     walked(b"main: ", made(b, n));
     in_bank(b, n);

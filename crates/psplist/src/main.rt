@@ -3,7 +3,7 @@
 use libc::STDIN_FILENO;
 
 fn main() {
-    let mut input = [0u8; 65537];
+    let mut input = [0u8; show::INPUT + 1];
     let n = io::read_full(STDIN_FILENO, &mut input);
     show::show(&input[..n]);
 }

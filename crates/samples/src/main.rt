@@ -1,9 +1,8 @@
 // Samples of the listing, each put together here: the worked file, cut at every length and damaged; each answer; the place rules, as a
 // grid of ids by spots; palettes; eleven layers in the file's own order. A heading names the case, and what the listing program prints
 // of it follows.
-mod files;
-
 use build::Image;
+use build::files;
 use build::made;
 use print::text;
 ghost use Prim.Native.Nat.{_≤_};
@@ -31,7 +30,7 @@ fn answer(b: &[u8], size: usize) {
 }
 
 fn worked(b: &mut [u8]) {
-    let n = files::file(b, files::grey(1), 0, 0);
+    let n = files::worked(b);
     case(b"the worked file", b, n);
     case(b"cut to 520", b, 520);
     cuts(b);
@@ -51,14 +50,15 @@ fn cut(b: &[u8], size: usize) {
     answer(b, size);
 }
 
-// The worked file with another number at a place.
+// The worked file with another number at a place. Its blocks have their headers at 36, 88, 102 and 491, and its chunks start at 50, 116
+// and 505.
 fn damaged(name: &[u8], place: usize, size: u32, x: u64) {
     let mut buffer = [0u8; SIZE];
     damaged_in(&mut buffer, name, place, size, x);
 }
 
 fn damaged_in(b: &mut [u8], name: &[u8], place: usize, size: u32, x: u64) {
-    let n = files::file(b, files::grey(1), 0, 0);
+    let n = files::worked(b);
     build::number(b, place, size, x);
     case(name, b, n);
 }
@@ -210,7 +210,7 @@ fn name_end(input: &[u8], start: usize) -> usize
 
 // The second table has room for two entries, and twelve numbers more.
 fn rooms(b: &mut [u8]) {
-    let n = files::file(b, files::grey(1), 0, 0);
+    let n = files::worked(b);
     let mut three = [0u32; 39];
     let mut two = [0u32; 38];
     let mut none = [0u32; 0];

@@ -5,11 +5,12 @@ use listing::Answer;
 use print::text;
 ghost use Prim.Native.Nat.{_+_, _≤_};
 ghost use lib.ListN.{length};
+ghost use Rattle.entry.specs.Entry.{size};
 
 // Bytes of the program's input, and the numbers of a table with room for its 512 entries.
 pub const INPUT: usize = 65536;
 
-pub const TABLE: usize = 6656;
+pub const TABLE: usize = 512 * Entry::SIZE;
 
 // The listing, under the program's own limit.
 pub fn list(input: &[u8], table: &mut [u32]) -> Answer {
@@ -54,7 +55,7 @@ fn entries(table: &[u32], count: usize) {
 
 // An entry's numbers, in the order of its fields.
 fn entry_at(table: &[u32], at: usize) -> Entry
-    requires { ⌜ at + 13 ≤ length (now table) ⌝ }
+    requires { ⌜ at + size ≤ length (now table) ⌝ }
 {
     Entry {
         id: table[at],

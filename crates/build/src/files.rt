@@ -1,8 +1,8 @@
-// The files that the samples start from: a file header, an image of 1 by 1 pixels, palettes, and a bank whose layers hold raw channels of
-// four bytes.
-use build::Image;
+// Whole files: a file header, an image of 1 by 1 pixels, palettes, and a bank whose layers hold raw channels of four bytes.
+use crate::Image;
 ghost use Prim.Native.Nat.{_≤_};
 
+// Bytes owned by a channel and by a layer.
 const CHANNEL: u64 = 30;
 
 const LAYER: u64 = 389;
@@ -44,9 +44,14 @@ pub fn coloured() -> Image {
     }
 }
 
+// Document 01's file of 521 bytes: a grey image with one layer and its channel.
+pub fn worked(b: &mut [u8]) -> usize {
+    file(b, grey(1), 0, 0)
+}
+
 fn start(b: &mut [u8], i: Image) -> usize {
-    let at = build::file_header(b, 0);
-    build::attributes(b, at, i)
+    let at = crate::file_header(b, 0);
+    crate::attributes(b, at, i)
 }
 
 // One layer, with so many palettes before its bank and after it.
@@ -62,11 +67,11 @@ fn palettes(b: &mut [u8], at: usize, count: u32) -> usize {
     if count == 0 {
         return at;
     }
-    let at = build::palette(b, at, 2);
+    let at = crate::palette(b, at, 2);
     if count == 1 {
         return at;
     }
-    build::palette(b, at, 2)
+    crate::palette(b, at, 2)
 }
 
 fn bank(b: &mut [u8], at: usize, depth: u32) -> usize {
@@ -77,38 +82,38 @@ fn bank(b: &mut [u8], at: usize, depth: u32) -> usize {
 }
 
 fn one_channel(b: &mut [u8], at: usize) -> usize {
-    let at = build::bank(b, at, LAYER + CHANNEL);
+    let at = crate::bank(b, at, LAYER + CHANNEL);
     layer(b, at, b"")
 }
 
 fn three_channels(b: &mut [u8], at: usize) -> usize {
-    let at = build::bank(b, at, LAYER + 3 * CHANNEL);
-    let at = build::layer(b, at, 375 + 3 * CHANNEL, b"", 1, 3);
-    let at = build::channel(b, at, 0, 1, 4, 4);
-    let at = build::channel(b, at, 0, 2, 4, 4);
-    build::channel(b, at, 0, 3, 4, 4)
+    let at = crate::bank(b, at, LAYER + 3 * CHANNEL);
+    let at = crate::layer(b, at, 375 + 3 * CHANNEL, b"", 1, 3);
+    let at = crate::channel(b, at, 0, 1, 4, 4);
+    let at = crate::channel(b, at, 0, 2, 4, 4);
+    crate::channel(b, at, 0, 3, 4, 4)
 }
 
 // A layer of one channel.
 fn layer(b: &mut [u8], at: usize, name: &[u8]) -> usize {
-    let at = build::layer(b, at, 375 + CHANNEL, name, 1, 1);
-    build::channel(b, at, 0, 0, 4, 4)
+    let at = crate::layer(b, at, 375 + CHANNEL, name, 1, 1);
+    crate::channel(b, at, 0, 0, 4, 4)
 }
 
-// A layer whose only colour channel stands there twice.
+// A layer of two bitmaps, a count that stands at 487, whose only colour channel is there twice.
 pub fn twice(b: &mut [u8]) -> usize {
     let at = start(b, grey(1));
-    let at = build::bank(b, at, LAYER + 2 * CHANNEL);
-    let at = build::layer(b, at, 375 + 2 * CHANNEL, b"", 1, 2);
-    build::number(b, 487, 2, 2);
-    let at = build::channel(b, at, 0, 0, 4, 4);
-    build::channel(b, at, 0, 0, 4, 4)
+    let at = crate::bank(b, at, LAYER + 2 * CHANNEL);
+    let at = crate::layer(b, at, 375 + 2 * CHANNEL, b"", 1, 2);
+    crate::number(b, 487, 2, 2);
+    let at = crate::channel(b, at, 0, 0, 4, 4);
+    crate::channel(b, at, 0, 0, 4, 4)
 }
 
 // Eleven layers, in an order that no sorting of their names gives.
 pub fn eleven(b: &mut [u8], announced: u32) -> usize {
     let at = start(b, grey(announced));
-    let at = build::bank(b, at, 11 * (LAYER + CHANNEL));
+    let at = crate::bank(b, at, 11 * (LAYER + CHANNEL));
     let at = first_five(b, at);
     last_six(b, at)
 }
@@ -142,9 +147,9 @@ pub const IN_LAYER: u32 = 3;
 pub const AFTER_BANK: u32 = 4;
 
 pub fn placed(b: &mut [u8], spot: u32, id: u32) -> usize {
-    let at = build::file_header(b, 0);
+    let at = crate::file_header(b, 0);
     let at = put(b, at, spot == FIRST, id);
-    let at = build::attributes(b, at, grey(1));
+    let at = crate::attributes(b, at, grey(1));
     let at = put(b, at, spot == BEFORE_BANK, id);
     let at = bank_with(b, at, spot, id);
     put(b, at, spot == AFTER_BANK, id)
@@ -153,16 +158,16 @@ pub fn placed(b: &mut [u8], spot: u32, id: u32) -> usize {
 fn bank_with(b: &mut [u8], at: usize, spot: u32, id: u32) -> usize {
     let in_bank = spot == IN_BANK;
     let in_layer = spot == IN_LAYER;
-    let at = build::bank(b, at, LAYER + CHANNEL + length(in_bank | in_layer));
+    let at = crate::bank(b, at, LAYER + CHANNEL + length(in_bank | in_layer));
     let at = put(b, at, in_bank, id);
-    let at = build::layer(b, at, 375 + CHANNEL + length(in_layer), b"", 1, 1);
+    let at = crate::layer(b, at, 375 + CHANNEL + length(in_layer), b"", 1, 1);
     let at = put(b, at, in_layer, id);
-    build::channel(b, at, 0, 0, 4, 4)
+    crate::channel(b, at, 0, 0, 4, 4)
 }
 
 fn put(b: &mut [u8], at: usize, here: bool, id: u32) -> usize {
     if here {
-        return build::header(b, at, id, 0, 0);
+        return crate::header(b, at, id, 0, 0);
     }
     at
 }
