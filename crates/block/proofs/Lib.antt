@@ -4,3 +4,4 @@ pub mod Passed
 pub mod Placed
 pub mod Stepped
 pub mod Owed
+pub mod OneOutcome

@@ -6,3 +6,4 @@ pub mod Rules
 pub mod Value
 pub mod Density
 pub mod Worked
+pub mod OneOutcome

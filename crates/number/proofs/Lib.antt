@@ -2,3 +2,4 @@
 pub mod Width
 pub mod Signed
 pub mod Double
+pub mod OneOutcome
