@@ -3,7 +3,7 @@ use mathlib.Core.Path.{_≡_, refl, sym, ap, ap₂, subst, _∙_}
 use mathlib.Core.List.{List, _++_}
 use Prim.Native.Nat.{ℕ, _-_, _*_, _/_, _≤_}
 use native.Mathlib.Omega.{arith}
-use borrow.Author.Tests.{ltb-false}
+use borrow.Author.Tests.{ltb-true, ltb-false}
 use lib.ListN.{length, take, drop}
 use lib.Seq.{take-all}
 use Rattle.limits.specs.Limits.{inputLimit}
@@ -28,7 +28,7 @@ use Rattle.listing.specs.declared.walker.Out.{Out}
 use Rattle.listing.specs.Answers.{Paper, paper, paperOf}
 use Rattle.listing.specs.Sought.{Kept, kept, put, noted}
 use Rattle.listing.specs.Walking.{out}
-use Rattle.listing.specs.Listing.{headOf, behind, listing, listed, told, tabled, lists, result}
+use Rattle.listing.specs.Listing.{headOf, behind, listing, listed, told, tabled, lists, roomUpTo, listsUpTo, result}
 use Rattle.listing.specs.Walks.{Walks}
 
 -- a good header is that of an input within the limit
@@ -73,13 +73,24 @@ module _ (s : List ℕ) (room : ℕ) (t : List ℕ) (x : Sought) where
         finds = sym (ap (λ (r : rooms.Answer). keep (λ y i e. noted y e) x 0 (r .entries)) none);
       }
 
--- a table that gives the room
-pub list-leaves :
-    (s t : List ℕ) (x : Sought) (r : Listed) (after : List ℕ) → Walks s (length t / size) t x r after → result (r .answer) after ≡ lists s t
-unfolding lists
-list-leaves s t x r after w =
-    let a = listed s (length t / size) in
-    let all : take (length t / size) (a .entries) ≡ a .entries = take-all (length t / size) (a .entries) (cut-room (length t / size) _) in
-    let table : after ≡ tabled a t =
-    w .stores ∙ write-all (a .entries) t ∙ ap (λ (es : List Entry). numbers es ++ drop (size * length es) t) all in
-    λ i. record { told = w .answer i; dest = table i }
+-- a table that reaches as far as the room
+module _ (s t : List ℕ) (x : Sought) (r : Listed) (after : List ℕ) where
+  room-leaves :
+      (room : ℕ) → room ≤ length t / size → Walks s room t x r after
+      → result (r .answer) after ≡ record { told = told (listed s room); dest = tabled (listed s room) t }
+  room-leaves room low w =
+      let a = listed s room in
+      let all : take (length t / size) (a .entries) ≡ a .entries = take-all (length t / size) (a .entries) (omega (arith, cut-room room (listing s))) in
+      let table : after ≡ tabled a t =
+      w .stores ∙ write-all (a .entries) t ∙ ap (λ (es : List Entry). numbers es ++ drop (size * length es) t) all in
+      λ i. record { told = w .answer i; dest = table i }
+
+  pub list-leaves : Walks s (length t / size) t x r after → result (r .answer) after ≡ lists s t
+  unfolding lists
+  list-leaves = room-leaves (length t / size) (omega arith)
+
+  pub list-up-to-leaves : (most : ℕ) → Walks s (roomUpTo most t) t x r after → result (r .answer) after ≡ listsUpTo s most t
+  unfolding listsUpTo
+  list-up-to-leaves most =
+      room-leaves (roomUpTo most t)
+      (pick-ind (λ (n : ℕ). n ≤ length t / size) _ _ _ (λ less. omega (arith, ltb-true most (length t / size) less)) (λ _. omega arith))

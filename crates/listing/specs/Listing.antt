@@ -64,5 +64,12 @@ tabled a table = numbers (a .entries) ++ drop (size * length (a .entries)) table
 unfoldable pub lists : List ℕ → List ℕ → Result Paper
 lists s table = record { told = told (listed s (length table / size)); dest = tabled (listed s (length table / size)) table }
 
+-- the same, in a room for at most so many entries
+abbrev pub roomUpTo : ℕ → List ℕ → ℕ
+roomUpTo most table = pick (ltb most (length table / size)) most (length table / size)
+
+unfoldable pub listsUpTo : List ℕ → ℕ → List ℕ → Result Paper
+listsUpTo s most table = record { told = told (listed s (roomUpTo most table)); dest = tabled (listed s (roomUpTo most table)) table }
+
 abbrev pub result : Answer → List ℕ → Result Paper
 result a table = record { told = paper a; dest = table }

@@ -10,5 +10,6 @@ pub use answers::Answer;
 pub use lister::Listed;
 pub use lister::count;
 pub use lister::list;
+pub use lister::list_up_to;
 pub use lister::seek;
 pub use sought::Sought;

@@ -11,7 +11,7 @@ use entry::Entry;
 ghost use mathlib.Core.Path.{_≡_};
 ghost use Rattle.listing.specs.Answers.{paper};
 ghost use Rattle.listing.specs.Sought.{ofLayer, soughtIn};
-ghost use Rattle.listing.specs.Listing.{listed, told, lists, result};
+ghost use Rattle.listing.specs.Listing.{listed, told, lists, listsUpTo, result};
 ghost use Rattle.listing.specs.Walks.{Walks};
 
 // No block of a permitted input ends past this: the input is at most 2^26 bytes, and a block's length has 32 bits.
@@ -71,6 +71,17 @@ pub fn list(input: &[u8], table: &mut [u32]) -> Answer
     ensures { λ r. ⌜ result r (now (table .exit)) ≡ lists (now (input .entry)) (now (table .entry)) ⌝ }
 {
     let room = table.len() / Entry::SIZE;
+    let l = walk(input, room, table, Sought::of_layer(0));
+    let answer = l.answer;
+    answer
+}
+
+// The same with a room for at most so many entries: the smaller of that and the table's own.
+pub fn list_up_to(input: &[u8], most: usize, table: &mut [u32]) -> Answer
+    ensures { λ r. ⌜ result r (now (table .exit)) ≡ listsUpTo (now (input .entry)) most (now (table .entry)) ⌝ }
+{
+    let whole = table.len() / Entry::SIZE;
+    let room = if most < whole { most } else { whole };
     let l = walk(input, room, table, Sought::of_layer(0));
     let answer = l.answer;
     answer

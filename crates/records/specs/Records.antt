@@ -1,9 +1,12 @@
 -- A table's entries as records (document 01, "The table").
 use Prim.Native.Nat.{ℕ, zero, suc, _+_, _*_}
-use mathlib.Core.List.{List}
-use lib.ListN.{getD, set}
+use mathlib.Core.Path.{_≡_}
+use mathlib.Core.List.{List, _++_}
+use lib.ListN.{length, getD, set, drop}
 use Rattle.entry.specs.declared.Entry.{Entry}
 use Rattle.entry.specs.Entry.{size}
+use Rattle.listing.specs.declared.answers.Answer.{Answer}
+use Rattle.listing.specs.Listing.{listed, roomUpTo, listsUpTo, result}
 
 -- the entry whose thirteen numbers stand in a table from a place on
 abbrev pub entryAt : List ℕ → ℕ → Entry
@@ -27,3 +30,10 @@ entryAt t at = record {
 unfoldable pub recordsOf : List ℕ → ℕ → List Entry → List Entry
 recordsOf t zero old = old
 recordsOf t (suc k) old = set (recordsOf t k old) k (entryAt t (k * size))
+
+-- what `list_records` leaves: the listing in the smaller room, in the table and in the records; both rests are untouched
+pub record Recorded (s table : List ℕ) (records : List Entry) (r : Answer) (table' : List ℕ) (records' : List Entry) : Type 0 where
+  pub lists : result r table' ≡ listsUpTo s (length records) table
+  pub stores :
+      let es = listed s (roomUpTo (length records) table) .entries in
+      records' ≡ es ++ drop (length es) records

@@ -3,8 +3,9 @@ ghost use mathlib.Core.Path.{_≡_};
 ghost use Prim.Native.Nat.{_+_, _*_, _≤_};
 ghost use lib.ListN.{length};
 ghost use Rattle.entry.specs.Entry.{size};
-ghost use Rattle.records.specs.Records.{entryAt, recordsOf};
+ghost use Rattle.records.specs.Records.{entryAt, recordsOf, Recorded};
 use entry::Entry;
+use listing::Answer;
 
 // The i-th entry of the table.
 pub fn entry_at(table: &[u32], i: usize) -> Entry
@@ -39,4 +40,16 @@ pub fn fill(table: &[u32], count: usize, records: &mut [Entry])
         records[i] = entry_at(table, i);
         i += 1;
     }
+}
+
+// Lists an input into a table and into records alike: the room is the smaller of the two. The answer is that of the listing in this room;
+// the first count entries stand in both, and both rests are untouched.
+pub fn list_records(input: &[u8], table: &mut [u32], records: &mut [Entry]) -> Answer
+    ensures { λ r. ⌜ Recorded (now (input .entry)) (now (table .entry)) (now (records .entry)) r (now (table .exit)) (now (records .exit)) ⌝ }
+{
+    let most = records.len();
+    let answer = listing::list_up_to(input, most, table);
+    let count = answer.count();
+    fill(table, count, records);
+    answer
 }
