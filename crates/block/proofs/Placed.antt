@@ -4,11 +4,11 @@ use mathlib.Core.Logic.{_⊎_, inl, inr, ⊎-elim}
 use mathlib.Core.Bool.{Bool, true, false, _&&_, _||_}
 use Prim.Native.Nat.{ℕ, _≤_}
 use native.Mathlib.Omega.{arith}
-use borrow.Author.Tests.{eqb-true, eqb-false, eq-eqb}
-use lib.Dec.{eqb}
+use borrow.Author.Tests.{eqb-true, eqb-false, eq-eqb, leb-true}
+use lib.Dec.{eqb, leb}
 use Rattle.laws.specs.Choice.{pick}
 use Rattle.laws.proofs.Choice.{pick-ind}
-use Rattle.laws.proofs.Tests.{either, neither, other-not}
+use Rattle.laws.proofs.Tests.{both, either, neither, other-not}
 use Rattle.block.specs.declared.state.State.{State}
 use Rattle.block.specs.Place.{gridOf, isBarred, isUnused, placeOf}
 
@@ -23,7 +23,7 @@ pub data Placed (st : State) (id level : ℕ) : ℕ → Type 0 where
   bank : Begun st → id ≡ 3 → level ≡ 0 → st .bank ≡ false → Placed st id level 1
   layer : Begun st → id ≡ 4 → level ≡ 1 → Placed st id level 1
   channel : Begun st → id ≡ 5 → level ≡ 2 → Placed st id level 1
-  skip : Begun st → Placed st id level 2
+  skip : Begun st → (id ≡ 2 → st .image .depth ≡ 24) → Placed st id level 2
 
 module _ (st : State) (id level : ℕ) (begun : Begun st) where
   -- at the main level, what is not barred
@@ -52,7 +52,8 @@ module _ (st : State) (id level : ℕ) (begun : Begun st) where
     in-main : Placed st id level (pick (eqb id 0 || eqb id 2 || eqb id 3) 1 (pick (eqb id 4 || eqb id 5 || eqb id 8) 0 2))
     in-main =
         let P : ℕ → Type 0 = λ p. Placed st id level p in
-        pick-ind P _ _ _ (λ h. entered h) (λ _. pick-ind P _ _ _ (λ _. refused) (λ _. skip begun))
+        pick-ind P _ _ _ (λ h. entered h) (λ other. pick-ind P _ _ _ (λ _. refused) (λ _. skip begun (λ two.
+        absurd (eqb-false id 2 (neither (eqb id 0) (eqb id 2) (neither (eqb id 0 || eqb id 2) (eqb id 3) other .0) .1) two))))
 
   in-grid : level ≤ 2 → isBarred st id level ≡ false → isUnused st id level ≡ false → Placed st id level (gridOf id level)
   unfolding gridOf
@@ -73,7 +74,7 @@ placed st id level low =
     (λ none. pick-ind P (eqb id 0) 1 0 (λ e. image (eqb-true _ 0 none) (eqb-true id 0 e)) (λ _. refused))
     (λ some.
     let begun : Begun st = eqb-false (st .image .depth) 0 some in
-    pick-ind P _ _ _ (λ _. skip begun) (λ _.
+    pick-ind P (leb 12 id) _ _ (λ high. skip begun (λ two. absurd (omega (arith, leb-true 12 id high)))) (λ _.
     pick-ind P _ _ _ (λ _. refused) (λ free.
-    pick-ind P _ _ _ (λ _. skip begun) (λ used.
+    pick-ind P _ _ _ (λ unused. skip begun (λ _. eqb-true (st .image .depth) 24 (both (eqb level 0 && eqb id 2) _ unused .1))) (λ used.
     in-grid st id level begun low free used))))

@@ -86,6 +86,7 @@ module _ (s : List ℕ) (st : State) (at end levels : ℕ) where
     pub id : ℕ
     pub total : ℕ
     pub begun : Begun st
+    pub unused : id ≡ 2 → st .image .depth ≡ 24
     pub present : at + 14 + total ≤ length s
     pub within : at + 14 + total ≤ end
     pub entry : e ≡ entryOf id 1 level at (14 + total) 0 (at + 14) total
@@ -154,14 +155,15 @@ module _ (s : List ℕ) (st : State) (at end levels : ℕ) where
   if-permitted (At o) rest g = refuses 7 (at + 14) (omega arith) (omega arith) (omega arith)
 
   module _ (low : levels ≤ main) (header : at + 14 ≤ length s) (h : BlockHeader) (fits : at + 14 + h .total ≤ end) where
-    skip-stepped : Begun st → Stepped (skipBlock s st (h .id) (h .total) at level)
+    skip-stepped : Begun st → (h .id ≡ 2 → st .image .depth ≡ 24) → Stepped (skipBlock s st (h .id) (h .total) at level)
     unfolding skipBlock
-    skip-stepped begun =
+    skip-stepped begun unused =
         unit-ind Stepped s (at + 14) (h .total) _ (λ _. soon (at + 14) (omega arith)) (λ there.
         leafed (a-skip (record {
           id = h .id;
           total = h .total;
           begun = begun;
+          unused = unused;
           present = there;
           within = fits;
           entry = refl;
@@ -283,7 +285,7 @@ module _ (s : List ℕ) (st : State) (at end levels : ℕ) where
         (p : ℕ) → Placed st (h .id) level p → (p ≡ 0 → ⊥) → isSurplus st (h .id) ≡ false → areLengths p h ≡ true → Stepped (kindOf s st h p at level)
     unfolding kindOf
     kind-stepped p refused some surplus good = absurd (some refl)
-    kind-stepped p (skip begun) some surplus good = subst⁻¹ Stepped (pick-yes _ _ _ refl) (skip-stepped begun)
+    kind-stepped p (skip begun unused) some surplus good = subst⁻¹ Stepped (pick-yes _ _ _ refl) (skip-stepped begun unused)
     kind-stepped p (image none e) some surplus good =
         subst⁻¹ Stepped (pick-no _ _ _ refl ∙ pick-yes _ _ _ (eq-eqb (h .id) 0 e)) (image-stepped none (image-total h (lengths 1 h good) e))
     kind-stepped p (palette begun e top once used) some surplus good =

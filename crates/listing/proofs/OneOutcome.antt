@@ -11,7 +11,7 @@ use Rattle.listing.specs.declared.lister.Listed.{Listed}
 use Rattle.listing.specs.declared.sought.Sought.{Sought}
 use Rattle.listing.specs.Answers.{Paper, paper}
 use Rattle.listing.specs.Sought.{ofLayer, soughtIn}
-use Rattle.listing.specs.Listing.{listed, told, lists, result}
+use Rattle.listing.specs.Listing.{listed, told, lists, listsUpTo, result}
 
 -- the answer that a paper tells of
 answerOf : Paper → Answer
@@ -49,6 +49,11 @@ answer-back (TableFull place count) = refl
 pub list-one :
     (s table : List ℕ) (a b : Answer) (x y : List ℕ) → result a x ≡ lists s table → result b y ≡ lists s table → (a ≡ b) × (x ≡ y)
 list-one s table = result-one paper answerOf answer-back (lists s table)
+
+pub list-up-to-one :
+    (s : List ℕ) (most : ℕ) (table : List ℕ) (a b : Answer) (x y : List ℕ)
+    → result a x ≡ listsUpTo s most table → result b y ≡ listsUpTo s most table → (a ≡ b) × (x ≡ y)
+list-up-to-one s most table = result-one paper answerOf answer-back (listsUpTo s most table)
 
 pub count-one : (s : List ℕ) (room : ℕ) (a b : Answer) → paper a ≡ told (listed s room) → paper b ≡ told (listed s room) → a ≡ b
 count-one s room a b p q = answer-one paper answerOf answer-back a b (one p q)

@@ -7,12 +7,14 @@ use borrow.Author.Tests.{ltb-true, ltb-false}
 use lib.ListN.{length, drop}
 use Rattle.laws.specs.Results.{Result}
 use Rattle.laws.proofs.Choice.{pick-ind}
+use Rattle.laws.proofs.OneOutcome.{one}
 use Rattle.entry.specs.declared.Entry.{Entry}
 use Rattle.entry.specs.Entry.{size, numbers}
 use Rattle.walk.proofs.Cut.{cut-room}
 use Rattle.listing.specs.declared.answers.Answer.{Answer}
 use Rattle.listing.specs.Answers.{Paper, paper}
 use Rattle.listing.specs.Listing.{listing, listed, tabled, roomUpTo, listsUpTo, result}
+use Rattle.listing.proofs.OneOutcome.{list-up-to-one}
 use Rattle.records.specs.Records.{recordsOf, Recorded}
 use Rattle.records.proofs.Records.{records-are}
 
@@ -51,3 +53,11 @@ module _ (s ts : List ℕ) (ys : List Entry) (r : Answer) (zs : List ℕ) (e : r
         w ∙ ap₂ (λ (t : List ℕ) (k : ℕ). recordsOf t k ys) (ap (λ (x : Result Paper). x .dest) e) counted
         ∙ records-are es (drop (size * length es) ts) ys (omega (arith, few, room-most (length ys) ts));
   }
+
+-- any two outcomes are equal: the answers, the table's end content and the records'
+pub list-records-one :
+    (s table : List ℕ) (records : List Entry) (r r' : Answer) (t t' : List ℕ) (ws ws' : List Entry)
+    → Recorded s table records r t ws → Recorded s table records r' t' ws' → (r ≡ r') × ((t ≡ t') × (ws ≡ ws'))
+list-records-one s table records r r' t t' ws ws' p q =
+    let listed-one = list-up-to-one s (length records) table r r' t t' (p .lists) (q .lists) in
+    (listed-one .0, (listed-one .1, one (p .stores) (q .stores)))

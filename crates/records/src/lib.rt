@@ -1,4 +1,4 @@
-// Entry records (document 01, "The table"): a table's entries, stored in a lent slice, number by number.
+// Entry records (document 01, "The table"): the listing fills a lent slice of entry records, equal to the table number by number.
 ghost use mathlib.Core.Path.{_≡_};
 ghost use Prim.Native.Nat.{_+_, _*_, _≤_};
 ghost use lib.ListN.{length};
@@ -8,7 +8,7 @@ use entry::Entry;
 use listing::Answer;
 
 // The i-th entry of the table.
-pub fn entry_at(table: &[u32], i: usize) -> Entry
+fn entry_at(table: &[u32], i: usize) -> Entry
     requires { ⌜ i * size + size ≤ length (now table) ⌝ }
     ensures { λ r. ⌜ r ≡ entryAt (now (table .entry)) (i * size) ⌝ }
 {
@@ -31,7 +31,7 @@ pub fn entry_at(table: &[u32], i: usize) -> Entry
 }
 
 // Stores the first `count` entries of the table as the first records; the rest of the records stays as it was.
-pub fn fill(table: &[u32], count: usize, records: &mut [Entry])
+fn fill(table: &[u32], count: usize, records: &mut [Entry])
     requires { ⌜ (count * size ≤ length (now table)) × (count ≤ length (now records)) ⌝ }
     ensures { λ _. ⌜ now (records .exit) ≡ recordsOf (now (table .entry)) count (now (records .entry)) ⌝ }
 {

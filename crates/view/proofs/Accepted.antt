@@ -1,16 +1,16 @@
 -- What is known of an accepted input: its image chunk is present and permitted, the listed palette lies inside, and so does the chunk of
--- layer k, which is permitted.
+-- layer k, which is permitted. Below depth 24 a palette that was met is listed, so an image without one is grey.
 use mathlib.Core.Path.{_≡_, refl, sym, ap, subst, subst⁻¹, _∙_}
-use mathlib.Core.Bool.{Bool, true, false, _&&_}
+use mathlib.Core.Bool.{Bool, true, false, _&&_, not}
 use mathlib.Core.List.{List, [], _∷_, _++_}
 use Prim.Native.Nat.{ℕ, _+_, _*_, _≤_, _<_}
 use native.Mathlib.Omega.{arith}
-use borrow.Author.Tests.{eqb-true}
-use lib.Dec.{eqb}
+use borrow.Author.Tests.{eqb-true, eqb-false, eq-eqb}
+use lib.Dec.{eqb, ltb}
 use lib.ListN.{length}
 use Rattle.laws.specs.Lists.{part}
-use Rattle.laws.proofs.Choice.{pick-ind}
-use Rattle.laws.proofs.Tests.{never}
+use Rattle.laws.proofs.Choice.{pick-yes, pick-ind}
+use Rattle.laws.proofs.Tests.{never, both, either, other-not}
 use Rattle.entry.specs.declared.Entry.{Entry}
 use Rattle.entry.specs.Entry.{keep}
 use Rattle.walk.specs.Walk.{Stop, Leaf, Nest, Listing, ended, run}
@@ -22,9 +22,9 @@ use Rattle.walk.proofs.Invariant.{run-kept, cut-finished}
 use Rattle.chunk.specs.declared.image_attributes.ImageChunk.{ImageChunk}
 use Rattle.chunk.specs.declared.fault.Fault.the-variants.{None}
 use Rattle.chunk.specs.Depth.{isDepth}
-use Rattle.chunk.specs.ImageAttributes.{imageOf, imageAt, imageFault}
+use Rattle.chunk.specs.ImageAttributes.{imageOf, imageAt, imageFault, isPaletted}
 use Rattle.chunk.specs.LayerInformation.{layerOf, layerAt, layerFault}
-use Rattle.chunk.proofs.Rules.{image-rules}
+use Rattle.chunk.proofs.Rules.{four, image-rules}
 use Rattle.block.specs.declared.state.State.{State}
 use Rattle.block.specs.declared.state.Announced.{Announced}
 use Rattle.block.specs.State.{start, announcedBy, withImage, withPalette, withBank, withLayer, withChannel, isComplete}
@@ -50,6 +50,34 @@ sought-on (d ∷ es) e x i = sought-on es e (noted x d) (i + 1)
 skipped-image : (id : ℕ) (st : State) → skippedBy id st .image ≡ st .image
 unfolding skippedBy withPalette
 skipped-image id st = pick-ind (λ (q : State). q .image ≡ st .image) _ _ _ (λ _. refl) (λ _. refl)
+
+-- a block that is skipped meets a palette where it is one
+skipped-palette : (id : ℕ) (st : State) → skippedBy id st .palette ≡ true → (id ≡ 2 → ⊥) → st .palette ≡ true
+unfolding skippedBy withPalette
+skipped-palette id st =
+    pick-ind (λ (q : State). q .palette ≡ true → (id ≡ 2 → ⊥) → st .palette ≡ true) (eqb id 2) _ _ (λ yes _ other. absurd (other (eqb-true id 2 yes))) (λ _ p _. p)
+
+-- a palette that is found stays found
+palette-stays : (x : Sought) (e : Entry) → x .palette ≡ true → noted x e .palette ≡ true
+unfolding noted
+palette-stays x e p =
+    let P : Sought → Type 0 = λ y. y .palette ≡ true in
+    pick-ind P _ _ _ (λ _. pick-ind P _ _ _ (λ _. refl) (λ _. pick-ind P _ _ _ (λ _. pick-ind P _ _ _ (λ _. p) (λ _. p)) (λ _. p))) (λ _. p)
+
+palette-noted : (x : Sought) (e : Entry) → e .skipped ≡ 0 → e .id ≡ 2 → noted x e .palette ≡ true
+unfolding noted
+palette-noted x e used is =
+    ap (λ (y : Sought). y .palette) (pick-yes _ _ _ (eq-eqb (e .skipped) 0 used) ∙ pick-yes _ _ _ (eq-eqb (e .id) 2 is))
+
+below : (d : ℕ) → isDepth d ≡ true → (d ≡ 24 → ⊥) → ltb d 24 ≡ true
+below = four (λ (d : ℕ). (d ≡ 24 → ⊥) → ltb d 24 ≡ true) (λ _. refl) (λ _. refl) (λ _. refl) (λ other. absurd (other refl))
+
+not-true : (b : Bool) → not b ≡ true → b ≡ false
+not-true true h = never h
+not-true false h = refl
+
+one-of-two : (g : ℕ) → g ≤ 1 → (g ≡ 0 → ⊥) → g ≡ 1
+one-of-two g low some = omega arith
 
 module _ (s : List ℕ) where
   abbrev image : ImageChunk
@@ -85,6 +113,7 @@ module _ (s : List ℕ) where
       pub permitted : imageFault image ≡ None
       pub announced : st .image ≡ announcedBy image
       pub there : There (soughtIn (ofLayer k) es)
+      pub met : st .palette ≡ true → (image .depth ≡ 24 → ⊥) → soughtIn (ofLayer k) es .palette ≡ true
 
     -- before any block, or behind the image
     data Seen (levels at : ℕ) (es : List Entry) (st : State) : Type 0 where
@@ -93,13 +122,25 @@ module _ (s : List ℕ) where
 
     on :
         {es : List Entry} {st q : State} (e : Entry) → Behind es st → q .image ≡ st .image
-        → (e .skipped ≡ 0 → e .id ≡ 2 → e .start + e .stored ≤ length s) → (e .skipped ≡ 0 → e .id ≡ 4 → Layer (e .place)) → Behind (es ++ e ∷ []) q
-    on {es} e b same palette layer = record {
+        → (e .skipped ≡ 0 → e .id ≡ 2 → e .start + e .stored ≤ length s) → (e .skipped ≡ 0 → e .id ≡ 4 → Layer (e .place))
+        → (q .palette ≡ true → (image .depth ≡ 24 → ⊥) → noted (soughtIn (ofLayer k) es) e .palette ≡ true) → Behind (es ++ e ∷ []) q
+    on {es} e b same palette layer met = record {
       present = b .present;
       permitted = b .permitted;
       announced = same ∙ b .announced;
       there = subst⁻¹ There (sought-on es e (ofLayer k) 0) (there-noted (soughtIn (ofLayer k) es) e (b .there) palette layer);
+      met = λ p used. subst⁻¹ (λ (x : Sought). x .palette ≡ true) (sought-on es e (ofLayer k) 0) (met p used);
     }
+
+    -- an entry that meets no palette
+    as-before :
+        {es : List Entry} {st : State} {now : Bool} (e : Entry) → Behind es st → (now ≡ true → (image .depth ≡ 24 → ⊥) → st .palette ≡ true)
+        → now ≡ true → (image .depth ≡ 24 → ⊥) → noted (soughtIn (ofLayer k) es) e .palette ≡ true
+    as-before {es} e b back p used = palette-stays (soughtIn (ofLayer k) es) e (b .met (back p used) used)
+
+    same-depth : {es : List Entry} {st : State} → Behind es st → st .image .depth ≡ image .depth
+    unfolding announcedBy
+    same-depth b = ap (λ (x : Announced). x .depth) (b .announced)
 
     -- the image has a depth, so its block comes once
     begun : {es : List Entry} {st : State} → Behind es st → st .image .depth ≡ 0 → ⊥
@@ -124,6 +165,7 @@ module _ (s : List ℕ) where
           announced = ap (λ (x : State). x .image) (i .state) ∙ ap announcedBy c;
           there = subst⁻¹ There (sought-on es e (ofLayer k) 0)
               (there-noted (soughtIn (ofLayer k) es) e start-there (λ _ z. absurd (omega arith)) (λ _ z. absurd (omega arith)));
+          met = λ p _. never (subst (λ (x : State). x .palette ≡ true) st-is (sym (ap (λ (x : State). x .palette) (i .state)) ∙ p));
         })
     leaf-seen (an-image i) (after b) = absurd (begun b (i .first))
     leaf-seen (a-palette i) (first p none st-is) = absurd (i .begun (ap (λ (x : State). x .image .depth) st-is))
@@ -131,15 +173,18 @@ module _ (s : List ℕ) where
         let at-start = ap (λ (x : Entry). x .start) (i .entry) in
         let so-many = ap (λ (x : Entry). x .stored) (i .entry) in
         let id = ap (λ (x : Entry). x .id) (i .entry) in
-        after (on e b (ap (λ (x : State). x .image) (i .state)) (λ _ _. omega (arith, i .present)) (λ _ z. absurd (omega arith)))
+        after (on e b (ap (λ (x : State). x .image) (i .state)) (λ _ _. omega (arith, i .present)) (λ _ z. absurd (omega arith))
+        (λ _ _. palette-noted _ e (ap (λ (x : Entry). x .skipped) (i .entry)) id))
     leaf-seen (a-channel i) (first p none st-is) = absurd (i .begun (ap (λ (x : State). x .image .depth) st-is))
     leaf-seen {e} (a-channel i) (after b) =
         let id = ap (λ (x : Entry). x .id) (i .entry) in
-        after (on e b (ap (λ (x : State). x .image) (i .state)) (λ _ z. absurd (omega arith)) (λ _ z. absurd (omega arith)))
+        after (on e b (ap (λ (x : State). x .image) (i .state)) (λ _ z. absurd (omega arith)) (λ _ z. absurd (omega arith))
+        (as-before e b (λ p _. sym (ap (λ (x : State). x .palette) (i .state)) ∙ p)))
     leaf-seen (a-skip i) (first p none st-is) = absurd (i .begun (ap (λ (x : State). x .image .depth) st-is))
     leaf-seen {st} {e} (a-skip i) (after b) =
         let skipped = ap (λ (x : Entry). x .skipped) (i .entry) in
-        after (on e b (ap (λ (x : State). x .image) (i .state) ∙ skipped-image (i .id) st) (λ z _. absurd (omega arith)) (λ z _. absurd (omega arith)))
+        after (on e b (ap (λ (x : State). x .image) (i .state) ∙ skipped-image (i .id) st) (λ z _. absurd (omega arith)) (λ z _. absurd (omega arith))
+        (as-before e b (λ p used. skipped-palette (i .id) st (sym (ap (λ (x : State). x .palette) (i .state)) ∙ p) (λ two. used (sym (same-depth b) ∙ i .unused two)))))
 
     nest-seen :
         {st q : State} {at end levels inside end' : ℕ} {es : List Entry} {e : Entry} → NestOf s st at end levels e inside q end'
@@ -148,16 +193,17 @@ module _ (s : List ℕ) where
     nest-seen (a-bank i) (first p none st-is) l = absurd (i .begun (ap (λ (x : State). x .image .depth) st-is))
     nest-seen {e} (a-bank i) (after b) l =
         let id = ap (λ (x : Entry). x .id) (i .entry) in
-        after (on e b (ap (λ (x : State). x .image) (i .state)) (λ _ z. absurd (omega arith)) (λ _ z. absurd (omega arith)))
+        after (on e b (ap (λ (x : State). x .image) (i .state)) (λ _ z. absurd (omega arith)) (λ _ z. absurd (omega arith))
+        (as-before e b (λ p _. sym (ap (λ (x : State). x .palette) (i .state)) ∙ p)))
     nest-seen (a-layer i) (first p none st-is) l = absurd (i .begun (ap (λ (x : State). x .image .depth) st-is))
     nest-seen {st} {at} {e} (a-layer i) (after b) l =
         let id = ap (λ (x : Entry). x .id) (i .entry) in
         let place : e .place ≡ at = ap (λ (x : Entry). x .place) (i .entry) in
-        let depth : st .image .depth ≡ image .depth = ap (λ (a : Announced). a .depth) (b .announced) in
         let good : layerFault (image .depth) (layerAt s (at + 14)) ≡ None =
-        subst (λ (d : ℕ). layerFault d (layerAt s (at + 14)) ≡ None) depth (subst (λ c. layerFault (st .image .depth) c ≡ None) (i .is) (i .permitted-all)) in
+        subst (λ (d : ℕ). layerFault d (layerAt s (at + 14)) ≡ None) (same-depth b) (subst (λ c. layerFault (st .image .depth) c ≡ None) (i .is) (i .permitted-all)) in
         after (on e b (ap (λ (x : State). x .image) (i .state)) (λ _ z. absurd (omega arith))
-        (λ _ _. subst⁻¹ Layer place (record { present = i .present; permitted = good })))
+        (λ _ _. subst⁻¹ Layer place (record { present = i .present; permitted = good }))
+        (as-before e b (λ p _. sym (ap (λ (x : State). x .palette) (i .state)) ∙ p)))
 
     level-seen : {levels l at : ℕ} {es : List Entry} {st : State} → Seen levels at es st → Seen l at es st
     level-seen (first p none st-is) = first p none st-is
@@ -189,23 +235,43 @@ module _ (s : List ℕ) where
     not-first (after b) all = b
 
     module _ (room : ℕ) where
-      accepted-good :
-          headOf s ≡ Good → cut room (behind s Good) .number ≡ 0 → Behind (cut room (behind s Good) .entries) (behind s Good .state)
+      -- what is seen, and that all is there
+      abbrev Whole : Listing State → Type 0
+      Whole w = Behind (cut room w .entries) (w .state) × (isComplete (w .state) ≡ true)
+
+      accepted-good : headOf s ≡ Good → cut room (behind s Good) .number ≡ 0 → Whole (behind s Good)
       accepted-good good z =
           let w = behind s Good in
           let kept = run-kept main (length s) (stepAt s) Seen (moves s) keeps start 36 beyond main [] (omega arith) (omega arith) (first refl refl refl) in
           let f = cut-finished main (length s) (stepAt s) Seen beyond main room [] w kept z in
           let last = cut room w .place in
           let near : last ≤ beyond = omega (arith, f .ends .whole refl, good-small s good) in
-          not-first (f .holds) (complete (subst (Stepped s (w .state) last beyond main) (f .stops) (stepped s (w .state) last beyond main near (omega arith))))
+          let all = complete (subst (Stepped s (w .state) last beyond main) (f .stops) (stepped s (w .state) last beyond main near (omega arith))) in
+          (not-first (f .holds) all, all)
 
-      accepted-behind : (h : Head) → headOf s ≡ h → cut room (behind s h) .number ≡ 0 → Behind (cut room (behind s h) .entries) (behind s h .state)
+      accepted-behind : (h : Head) → headOf s ≡ h → cut room (behind s h) .number ≡ 0 → Whole (behind s h)
       accepted-behind Good e z = accepted-good e z
       accepted-behind OverLimit e z = absurd (omega (arith, ap (λ (a : rooms.Answer). a .number) (cut-ended room 1 0 start)))
       accepted-behind EndsTooSoon e z = absurd (omega (arith, ap (λ (a : rooms.Answer). a .number) (cut-ended room 2 0 start)))
       accepted-behind WrongSignature e z = absurd (omega (arith, ap (λ (a : rooms.Answer). a .number) (cut-ended room 3 0 start)))
       accepted-behind WrongVersion e z = absurd (omega (arith, ap (λ (a : rooms.Answer). a .number) (cut-ended room 4 32 start)))
 
-      pub accepted-has : listed s room .number ≡ 0 → Behind (listed s room .entries) (listing s .state)
+      accepted-whole : listed s room .number ≡ 0 → Whole (listing s)
       unfolding listing
-      accepted-has z = accepted-behind (headOf s) refl z
+      accepted-whole z = accepted-behind (headOf s) refl z
+
+      pub accepted-has : listed s room .number ≡ 0 → Behind (listed s room .entries) (listing s .state)
+      accepted-has z = accepted-whole z .0
+
+      -- below depth 24, without a listed palette, the image is grey
+      pub accepted-grey : listed s room .number ≡ 0 → (image .depth ≡ 24 → ⊥) → soughtIn (ofLayer k) (listed s room .entries) .palette ≡ false → image .grey ≡ 1
+      unfolding announcedBy
+      accepted-grey z used none =
+          let w = accepted-whole z in
+          let rules = image-rules image (w .0 .permitted) in
+          either (not (listing s .state .image .paletted)) (listing s .state .palette) (both (listing s .state .bank) _ (w .1) .1)
+          (λ plain.
+          let unpaletted : isPaletted image ≡ false = not-true _ (subst (λ (x : Announced). not (x .paletted) ≡ true) (w .0 .announced) plain) in
+          let some = eqb-false (image .grey) 0 (other-not (ltb (image .depth) 24) _ unpaletted (below (image .depth) (rules .depth) used)) in
+          one-of-two (image .grey) (rules .grey) some)
+          (λ met. never (sym none ∙ w .0 .met met used))

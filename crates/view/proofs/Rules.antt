@@ -16,7 +16,7 @@ use Rattle.view.specs.declared.facts.ImageFacts.{ImageFacts}
 use Rattle.view.specs.declared.facts.LayerFacts.{LayerFacts}
 use Rattle.view.specs.Facts.{imageFacts, layerFacts}
 use Rattle.view.specs.Found.{soughtOf}
-use Rattle.view.proofs.Accepted.{accepted-has}
+use Rattle.view.proofs.Accepted.{accepted-has, accepted-grey}
 
 pub image-facts-rules : (s : List ℕ) (room : ℕ) → imageFacts s room .number ≡ 0 → ImageRules (imageFacts s room .image)
 unfolding imageFacts
@@ -41,3 +41,8 @@ layer-facts-rules s room k =
     (layer-rules (imageAt s 50 .depth) _ (accepted-has s k room (eqb-true _ _ yes) .there .layer found .permitted)))
     (λ _ z. absurd (omega arith)))
     (λ no z. absurd (eqb-false _ _ no z))
+
+-- the ramp is shown, or its length refused (44), for a grey image without a palette only
+pub ramp-grey :
+    (s : List ℕ) (room : ℕ) → listed s room .number ≡ 0 → (imageAt s 50 .depth ≡ 24 → ⊥) → soughtOf s room 0 .palette ≡ false → imageAt s 50 .grey ≡ 1
+ramp-grey s room = accepted-grey s 0 room

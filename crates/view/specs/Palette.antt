@@ -26,7 +26,7 @@ shows what = record { number = 0; shown = what }
 abbrev pub refusal : ℕ → PaletteView
 refusal number = record { number = number; shown = Input 0 0 }
 
--- by a ramp's length: 43 depth 24; the listed palette's entries; the ramp; 44. What is accepted below depth 24 without a palette is grey
+-- by a ramp's length: 43 depth 24; the listed palette's entries; the ramp; 44. What is accepted below depth 24 without a palette is grey (`ramp-grey`)
 unfoldable pub paletteView : List ℕ → ℕ → ℕ → PaletteView
 paletteView s room ramp =
     pick (eqb (listed s room .number) 0)

@@ -1,6 +1,8 @@
-// The worked values of document 01 that a program can reach, run, and each answer of the readers and the packer but 31, whose plane is
-// too long for the stack. A line is what was asked, then the answer's numbers (number, place and bytes; of the packer number and
-// length), then the whole destination, which held EE before.
+// The worked values of document 01 that a program can reach, run, and each answer of the readers, the packer and the placing but 31,
+// whose plane is too long for the stack. A line is what was asked, then the answer's numbers (number, place and bytes; of the packer
+// number and length; of the placing its number), then the whole destination, which held EE before.
+use chunk::resolution::Density;
+use chunk::resolution::Resolution;
 use packet::PackAnswer;
 use packet::PlaneAnswer;
 use print::text;
@@ -152,10 +154,86 @@ fn rectangles() {
     );
 }
 
+// A canvas of so many pixels of EE, six bytes in all.
+fn place(asked: &[u8], width: u32, height: u32, r: Rect, plane: &[u8]) {
+    let mut canvas = [238u8; 6];
+    let a = canvas::place(width, height, &mut canvas, r, plane);
+    text(asked);
+    print::number(a.number() as u64);
+    text(b" |");
+    print::bytes(&canvas);
+    text(b"\n");
+}
+
+// Document 01's row: of its two pixels the canvas has the right one. Then each refusal, in the order of the tests.
+fn canvases() {
+    let r = Rect {
+        left: -1,
+        top: 1,
+        right: 1,
+        bottom: 2,
+    };
+    let back = Rect {
+        left: 1,
+        top: 1,
+        right: -1,
+        bottom: 2,
+    };
+    text(b"a canvas of six bytes\n");
+    place(
+        b"3 by 2, 10 11 00 00 at (-1,1)-(1,2):",
+        3,
+        2,
+        r,
+        b"\x10\x11\x00\x00",
+    );
+    place(b"3 by 3, all else wrong too:", 3, 3, back, b"");
+    place(b"3 by 2, (1,1)-(-1,2), no plane:", 3, 2, back, b"");
+    place(b"3 by 2, 10 11 at (-1,1)-(1,2):", 3, 2, r, b"\x10\x11");
+}
+
+// The bits of a double above 0; of any other 0. A NaN has no bits of its own.
+fn bits_of(x: f64) -> u64 {
+    if x > 0.0 {
+        return f64::to_bits(x);
+    }
+    0
+}
+
+// A value as its bits, and what is stored per unit of its metric: the bits of the dots per centimetre, where there are any.
+fn dots(asked: &[u8], bits: u64, metric: u8) {
+    let r = Resolution {
+        value: number::double_of(bits),
+        metric,
+    };
+    text(asked);
+    match r.per_centimetre() {
+        Density::Absent => text(b" none\n"),
+        Density::Dots(x) => {
+            print::number(bits_of(x));
+            text(b"\n");
+        }
+    }
+}
+
+fn resolutions() {
+    text(b"dots per centimetre\n");
+    dots(b"300 per inch:", 4643985272004935680, 1);
+    dots(b"118.11 per centimetre:", 4638011669311693783, 2);
+    dots(b"the least subnormal per centimetre:", 1, 2);
+    dots(b"the least subnormal per inch:", 1, 1);
+    dots(b"-0 per inch:", 9223372036854775808, 1);
+    dots(b"infinity per inch:", 9218868437227405312, 1);
+    dots(b"NaN per centimetre:", 9221120237041090560, 2);
+    dots(b"300 with metric 0:", 4643985272004935680, 0);
+}
+
 fn main() {
     streams();
     planes();
     forms();
     there_and_back();
     rectangles();
+    canvases();
+    resolutions();
 }
