@@ -3,7 +3,7 @@ ghost use mathlib.Core.Path.{_≡_};
 ghost use Prim.Native.Nat.{_+_, _≤_};
 ghost use lib.ListN.{length};
 ghost use Rattle.laws.specs.Lists.{over};
-ghost use Rattle.entry.specs.Entry.{size, numbersOf, stored};
+ghost use Rattle.entry.specs.Entry.{size, numbersOf, entryAt, stored};
 
 #[repr(C)]
 pub struct Entry {
@@ -25,6 +25,28 @@ pub struct Entry {
 impl Entry {
     // The numbers of an entry.
     pub const SIZE: usize = 13;
+
+    // The entry whose numbers stand in the table from a place on.
+    pub fn read(table: &[u32], at: usize) -> Entry
+        requires { ⌜ at + size ≤ length (now table) ⌝ }
+        ensures { λ r. ⌜ r ≡ entryAt (now (table .entry)) at ⌝ }
+    {
+        Entry {
+            id: table[at],
+            skipped: table[at + 1],
+            level: table[at + 2],
+            place: table[at + 3],
+            owned: table[at + 4],
+            layer: table[at + 5],
+            bitmap: table[at + 6],
+            channel: table[at + 7],
+            start: table[at + 8],
+            stored: table[at + 9],
+            width: table[at + 10],
+            height: table[at + 11],
+            plane: table[at + 12],
+        }
+    }
 }
 
 // Stores an entry's numbers from a place of the table on.

@@ -7,9 +7,9 @@ use lib.ListN.{length, take, drop, getD, length-set}
 use lib.Seq.{take-suc, take-length, take-at, drop-at, set-split, append-snoc, length-take-le, getD-append-add}
 use Rattle.laws.proofs.Over.{drop-more}
 use Rattle.entry.specs.declared.Entry.{Entry}
-use Rattle.entry.specs.Entry.{size, numbersOf, numbers, write}
+use Rattle.entry.specs.Entry.{size, numbersOf, entryAt, numbers, write}
 use Rattle.entry.proofs.Table.{write-all}
-use Rattle.records.specs.Records.{entryAt, recordsOf}
+use Rattle.records.specs.Records.{recordsOf}
 
 pub records-length : (t : List ℕ) (k : ℕ) (old : List Entry) → length (recordsOf t k old) ≡ length old
 unfolding recordsOf

@@ -1,30 +1,12 @@
 -- A table's entries as records (document 01, "The table").
-use Prim.Native.Nat.{ℕ, zero, suc, _+_, _*_}
+use Prim.Native.Nat.{ℕ, zero, suc, _*_}
 use mathlib.Core.Path.{_≡_}
 use mathlib.Core.List.{List, _++_}
-use lib.ListN.{length, getD, set, drop}
+use lib.ListN.{length, set, drop}
 use Rattle.entry.specs.declared.Entry.{Entry}
-use Rattle.entry.specs.Entry.{size}
+use Rattle.entry.specs.Entry.{size, entryAt}
 use Rattle.listing.specs.declared.answers.Answer.{Answer}
 use Rattle.listing.specs.Listing.{listed, roomUpTo, listsUpTo, result}
-
--- the entry whose thirteen numbers stand in a table from a place on
-abbrev pub entryAt : List ℕ → ℕ → Entry
-entryAt t at = record {
-  id = getD t at 0;
-  skipped = getD t (at + 1) 0;
-  level = getD t (at + 2) 0;
-  place = getD t (at + 3) 0;
-  owned = getD t (at + 4) 0;
-  layer = getD t (at + 5) 0;
-  bitmap = getD t (at + 6) 0;
-  channel = getD t (at + 7) 0;
-  start = getD t (at + 8) 0;
-  stored = getD t (at + 9) 0;
-  width = getD t (at + 10) 0;
-  height = getD t (at + 11) 0;
-  plane = getD t (at + 12) 0;
-}
 
 -- records in which the first entries of a table are stored, as many as are asked, each at its own index
 unfoldable pub recordsOf : List ℕ → ℕ → List Entry → List Entry

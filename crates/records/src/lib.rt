@@ -2,8 +2,8 @@
 ghost use mathlib.Core.Path.{_≡_};
 ghost use Prim.Native.Nat.{_+_, _*_, _≤_};
 ghost use lib.ListN.{length};
-ghost use Rattle.entry.specs.Entry.{size};
-ghost use Rattle.records.specs.Records.{entryAt, recordsOf, Recorded};
+ghost use Rattle.entry.specs.Entry.{size, entryAt};
+ghost use Rattle.records.specs.Records.{recordsOf, Recorded};
 use entry::Entry;
 use listing::Answer;
 
@@ -12,22 +12,7 @@ fn entry_at(table: &[u32], i: usize) -> Entry
     requires { ⌜ i * size + size ≤ length (now table) ⌝ }
     ensures { λ r. ⌜ r ≡ entryAt (now (table .entry)) (i * size) ⌝ }
 {
-    let at = i * Entry::SIZE;
-    Entry {
-        id: table[at],
-        skipped: table[at + 1],
-        level: table[at + 2],
-        place: table[at + 3],
-        owned: table[at + 4],
-        layer: table[at + 5],
-        bitmap: table[at + 6],
-        channel: table[at + 7],
-        start: table[at + 8],
-        stored: table[at + 9],
-        width: table[at + 10],
-        height: table[at + 11],
-        plane: table[at + 12],
-    }
+    Entry::read(table, i * Entry::SIZE)
 }
 
 // Stores the first `count` entries of the table as the first records; the rest of the records stays as it was.

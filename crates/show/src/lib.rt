@@ -3,9 +3,6 @@ use entry::Entry;
 use libc::STDOUT_FILENO;
 use listing::Answer;
 use print::text;
-ghost use Prim.Native.Nat.{_+_, _≤_};
-ghost use lib.ListN.{length};
-ghost use Rattle.entry.specs.Entry.{size};
 
 // Bytes of the program's input, and the numbers of a table with room for its 512 entries.
 pub const INPUT: usize = 65536;
@@ -47,30 +44,9 @@ fn entries(table: &[u32], count: usize) {
     let mut index = 0;
     while index < count {
         if index < table.len() / Entry::SIZE {
-            line(index, entry_at(table, index * Entry::SIZE));
+            line(index, Entry::read(table, index * Entry::SIZE));
         }
         index += 1;
-    }
-}
-
-// An entry's numbers, in the order of its fields.
-fn entry_at(table: &[u32], at: usize) -> Entry
-    requires { ⌜ at + size ≤ length (now table) ⌝ }
-{
-    Entry {
-        id: table[at],
-        skipped: table[at + 1],
-        level: table[at + 2],
-        place: table[at + 3],
-        owned: table[at + 4],
-        layer: table[at + 5],
-        bitmap: table[at + 6],
-        channel: table[at + 7],
-        start: table[at + 8],
-        stored: table[at + 9],
-        width: table[at + 10],
-        height: table[at + 11],
-        plane: table[at + 12],
     }
 }
 

@@ -51,8 +51,8 @@ use denote.Triple.Statement.{Contract, Triple}
 use denote.Triple.Table.{entered, cited}
 use denote.Triple.Walked.{says, needs, Stays, stay-slice, stay-none, stay-none-slice, walkOf, goes-slice, goes-none, goes-none-slice, Walks, ends-at, walked, walk-meets}
 use Rattle.entry.specs.declared.Entry.{Entry}
-use Rattle.entry.specs.Entry.{size}
-use Rattle.records.specs.Records.{entryAt, recordsOf}
+use Rattle.entry.specs.Entry.{size, entryAt}
+use Rattle.records.specs.Records.{recordsOf}
 use Rattle.entry.proofs.Entry as T
 use Rattle.entry.proofs.Entry.Laws as T′
 use Rattle.records.proofs.Records.{records-length}
