@@ -2,7 +2,7 @@
 use mathlib.Core.Path.{_≡_, refl}
 use mathlib.Core.List.{List, [], _∷_}
 use Prim.Native.Nat.{ℕ}
-use Rattle.number.specs.Number.{le, numberAt, signed}
+use Rattle.little.specs.Number.{le, numberAt, signed}
 use Rattle.chunk.specs.declared.fault.Fault.the-variants.{None, At}
 use Rattle.chunk.specs.Fault.{unlessOf}
 use Rattle.chunk.specs.ImageAttributes.{imageOf, imageFault}

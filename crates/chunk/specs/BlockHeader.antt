@@ -4,7 +4,7 @@ use mathlib.Core.Bool.{Bool}
 use mathlib.Core.List.{List, [], _∷_}
 use lib.Dec.{eqb}
 use Rattle.laws.specs.Lists.{part}
-use Rattle.number.specs.Number.{le, numberAt}
+use Rattle.little.specs.Number.{le, numberAt}
 use Rattle.chunk.specs.declared.block_header.BlockHeader.{BlockHeader}
 
 -- the header of its own bytes

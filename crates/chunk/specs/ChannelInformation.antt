@@ -2,7 +2,7 @@
 use Prim.Native.Nat.{ℕ}
 use mathlib.Core.List.{List, [], _∷_}
 use lib.Dec.{eqb, leb}
-use Rattle.number.specs.Number.{numberAt}
+use Rattle.little.specs.Number.{numberAt}
 use Rattle.laws.specs.Lists.{part}
 use Rattle.chunk.specs.declared.fault.Fault.{Fault}
 use Rattle.chunk.specs.declared.channel_information.ChannelChunk.{ChannelChunk}

@@ -3,7 +3,7 @@ use Prim.Native.Nat.{ℕ, _^_}
 use mathlib.Core.Bool.{_&&_}
 use mathlib.Core.List.{List, [], _∷_}
 use lib.Dec.{leb}
-use Rattle.number.specs.Number.{numberAt}
+use Rattle.little.specs.Number.{numberAt}
 use Rattle.laws.specs.Lists.{part}
 use Rattle.chunk.specs.declared.fault.Fault.{Fault}
 use Rattle.chunk.specs.declared.color_palette.PaletteChunk.{PaletteChunk}

@@ -4,7 +4,7 @@ use mathlib.Core.Bool.{Bool, true, false, _&&_}
 use mathlib.Core.List.{List, [], _∷_}
 use lib.Dec.{eqb}
 use Rattle.laws.specs.Lists.{part}
-use Rattle.number.specs.Number.{numberAt}
+use Rattle.little.specs.Number.{numberAt}
 use Rattle.chunk.specs.declared.file_header.FileHeader.{FileHeader}
 
 -- the header of its own bytes

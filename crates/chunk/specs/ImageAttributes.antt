@@ -5,7 +5,7 @@ use mathlib.Core.List.{List, [], _∷_}
 use lib.Dec.{eqb, leb, ltb}
 use lib.IntN.{ℤ, pos}
 use lib.Signed.{leZ}
-use Rattle.number.specs.Number.{numberAt, signedAt}
+use Rattle.little.specs.Number.{numberAt, signedAt}
 use Rattle.laws.specs.Lists.{part}
 use Rattle.limits.specs.Limits.{sideLimit, layerLimit}
 use Rattle.chunk.specs.declared.fault.Fault.{Fault}

@@ -3,7 +3,7 @@ use Prim.Native.Nat.{ℕ, _+_}
 use mathlib.Core.Bool.{Bool, _&&_, not}
 use mathlib.Core.List.{List, [], _∷_}
 use lib.Dec.{eqb, leb}
-use Rattle.number.specs.Number.{numberAt}
+use Rattle.little.specs.Number.{numberAt}
 use Rattle.laws.specs.Lists.{part}
 use Rattle.rect.specs.Rect.{isProper, isSaved}
 use Rattle.chunk.specs.declared.fault.Fault.{Fault}

@@ -32,10 +32,10 @@ impl BlockHeader {
         ensures { λ r. ⌜ r ≡ blockHeaderOf (now (header .entry)) ⌝ }
     {
         BlockHeader {
-            mark: number::u32_at(header, 0),
-            id: number::u16_at(header, 4),
-            initial: number::u32_at(header, 6),
-            total: number::u32_at(header, 10),
+            mark: little::u32_at(header, 0),
+            id: little::u16_at(header, 4),
+            initial: little::u32_at(header, 6),
+            total: little::u32_at(header, 10),
         }
     }
 

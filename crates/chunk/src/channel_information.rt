@@ -29,10 +29,10 @@ impl ChannelChunk {
         ensures { λ r. ⌜ r ≡ channelOf (now (chunk .entry)) ⌝ }
     {
         ChannelChunk {
-            stored: number::u32_at(chunk, 0),
-            plane: number::u32_at(chunk, 4),
-            bitmap: number::u16_at(chunk, 8),
-            channel: number::u16_at(chunk, 10),
+            stored: little::u32_at(chunk, 0),
+            plane: little::u32_at(chunk, 4),
+            bitmap: little::u16_at(chunk, 8),
+            channel: little::u16_at(chunk, 10),
         }
     }
 

@@ -26,7 +26,7 @@ impl PaletteChunk {
         ensures { λ r. ⌜ r ≡ paletteOf (now (chunk .entry)) ⌝ }
     {
         PaletteChunk {
-            count: number::u32_at(chunk, 0),
+            count: little::u32_at(chunk, 0),
         }
     }
 

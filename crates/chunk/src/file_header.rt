@@ -32,8 +32,8 @@ impl FileHeader {
     {
         FileHeader {
             signature: signature_at(header, 0),
-            major: number::u16_at(header, 32),
-            minor: number::u16_at(header, 34),
+            major: little::u16_at(header, 32),
+            minor: little::u16_at(header, 34),
         }
     }
 

@@ -9,6 +9,7 @@ ghost use Prim.Native.Nat.{_+_, _≤_};
 ghost use lib.ListN.{length};
 ghost use Rattle.chunk.specs.ImageAttributes.{imageOf, imageAt, isSide, imageFault};
 
+#[repr(C)]
 pub struct ImageChunk {
     pub width: i32,
     pub height: i32,
@@ -41,18 +42,18 @@ impl ImageChunk {
         ensures { λ r. ⌜ r ≡ imageOf (now (chunk .entry)) ⌝ }
     {
         ImageChunk {
-            width: number::i32_at(chunk, 0),
-            height: number::i32_at(chunk, 4),
-            bits: number::u64_at(chunk, 8),
+            width: little::i32_at(chunk, 0),
+            height: little::i32_at(chunk, 4),
+            bits: little::u64_at(chunk, 8),
             resolution: Resolution::decode(chunk, 8),
-            compression: number::u16_at(chunk, 17),
-            depth: number::u16_at(chunk, 19),
-            planes: number::u16_at(chunk, 21),
-            colours: number::u32_at(chunk, 23),
-            grey: number::u8_at(chunk, 27),
-            total: number::u32_at(chunk, 28),
-            active: number::i32_at(chunk, 32),
-            layers: number::u16_at(chunk, 36),
+            compression: little::u16_at(chunk, 17),
+            depth: little::u16_at(chunk, 19),
+            planes: little::u16_at(chunk, 21),
+            colours: little::u32_at(chunk, 23),
+            grey: little::u8_at(chunk, 27),
+            total: little::u32_at(chunk, 28),
+            active: little::i32_at(chunk, 32),
+            layers: little::u16_at(chunk, 36),
         }
     }
 

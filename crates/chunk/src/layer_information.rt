@@ -11,6 +11,7 @@ ghost use Rattle.laws.specs.Lists.{part};
 ghost use Rattle.chunk.specs.Depth.{colourChannels};
 ghost use Rattle.chunk.specs.LayerInformation.{flagAt, layerOf, layerAt, layerFault};
 
+#[repr(C)]
 pub struct LayerChunk {
     pub name: [u8; 256],
     // The layer type.
@@ -50,21 +51,21 @@ impl LayerChunk {
     {
         LayerChunk {
             name: name_at(chunk, 0),
-            kind: number::u8_at(chunk, 256),
+            kind: little::u8_at(chunk, 256),
             image: Area::decode(chunk, 257),
-            opacity: number::u8_at(chunk, 289),
-            blending: number::u8_at(chunk, 290),
+            opacity: little::u8_at(chunk, 289),
+            blending: little::u8_at(chunk, 290),
             visible: flag_at(chunk, 291),
             protected: flag_at(chunk, 292),
-            group: number::u8_at(chunk, 293),
+            group: little::u8_at(chunk, 293),
             mask: Area::decode(chunk, 294),
             linked: flag_at(chunk, 326),
             disabled: flag_at(chunk, 327),
             inverted: flag_at(chunk, 328),
-            blends: number::u16_at(chunk, 329),
+            blends: little::u16_at(chunk, 329),
             ranges: ranges_at(chunk, 331),
-            bitmaps: number::u16_at(chunk, 371),
-            channels: number::u16_at(chunk, 373),
+            bitmaps: little::u16_at(chunk, 371),
+            channels: little::u16_at(chunk, 373),
         }
     }
 
@@ -98,7 +99,7 @@ fn flag_at(file: &[u8], at: usize) -> bool
     requires { ⌜ at + 1 ≤ length (now file) ⌝ }
     ensures { λ r. ⌜ r ≡ flagAt (now (file .entry)) at ⌝ }
 {
-    number::u8_at(file, at) != 0
+    little::u8_at(file, at) != 0
 }
 
 fn name_at(file: &[u8], at: usize) -> [u8; 256]

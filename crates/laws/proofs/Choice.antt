@@ -1,5 +1,5 @@
 -- What is known of a choice by a test.
-use mathlib.Core.Path.{_≡_, refl, ap, subst}
+use mathlib.Core.Path.{_≡_, refl, ap}
 use mathlib.Core.Bool.{Bool, true, false}
 use Rattle.laws.specs.Choice.{pick}
 
@@ -29,12 +29,6 @@ module _ {ℓ} {A : Type ℓ} where
   unfolding pick
   pick-ind₂ P true x y x' y' f g = f refl
   pick-ind₂ P false x y x' y' f g = g refl
-
-  -- and by two tests that have one value
-  pub pick-alike :
-      (P : A → A → Type 0) (b b' : Bool) (x y x' y' : A) → b ≡ b'
-      → (b ≡ true → P x x') → (b ≡ false → P y y') → P (pick b x y) (pick b' x' y')
-  pick-alike P b b' x y x' y' e f g = subst (λ (c : Bool). P (pick b x y) (pick c x' y')) e (pick-ind₂ P b x y x' y' f g)
 
   -- a relation between a choice and one thing
   pub pick-left :

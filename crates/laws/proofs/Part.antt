@@ -48,9 +48,6 @@ module _ {A : Type 0} where
   unfolding part
   part-at l at n i d h = getD-take n (drop at l) i d h ∙ getD-drop at l i d
 
-  pub part-first : (l : List A) (at n : ℕ) (d : A) → 0 < n → getD (part l at n) 0 d ≡ getD l at d
-  part-first l at n d h = let here : at + 0 ≡ at = omega arith in part-at l at n 0 d h ∙ ap (λ (i : ℕ). getD l i d) here
-
   -- ### Of a longer list
 
   pub part-longer : (s t : List A) (at n : ℕ) → at + n ≤ length s → part (s ++ t) at n ≡ part s at n

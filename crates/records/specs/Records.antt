@@ -13,9 +13,11 @@ unfoldable pub recordsOf : List ℕ → ℕ → List Entry → List Entry
 recordsOf t zero old = old
 recordsOf t (suc k) old = set (recordsOf t k old) k (entryAt t (k * size))
 
+-- the records hold the entries of the listing in the smaller room; their rest is untouched
+abbrev pub Stores : List ℕ → List ℕ → List Entry → List Entry → Type 0
+Stores s table records records' = let es = listed s (roomUpTo (length records) table) .entries in records' ≡ es ++ drop (length es) records
+
 -- what `list_records` leaves: the listing in the smaller room, in the table and in the records; both rests are untouched
 pub record Recorded (s table : List ℕ) (records : List Entry) (r : Answer) (table' : List ℕ) (records' : List Entry) : Type 0 where
   pub lists : result r table' ≡ listsUpTo s (length records) table
-  pub stores :
-      let es = listed s (roomUpTo (length records) table) .entries in
-      records' ≡ es ++ drop (length es) records
+  pub stores : Stores s table records records'

@@ -22,6 +22,7 @@ ghost use lib.ListN.{length};
 ghost use Rattle.rect.specs.Rect.{rectAt};
 
 // RECT of document 000, section 4.2.
+#[repr(C)]
 pub struct Rect {
     pub left: i32,
     pub top: i32,
@@ -37,10 +38,10 @@ impl Rect {
         ensures { λ r. ⌜ r ≡ rectAt (now (file .entry)) at ⌝ }
     {
         Rect {
-            left: number::i32_at(file, at),
-            top: number::i32_at(file, at + 4),
-            right: number::i32_at(file, at + 8),
-            bottom: number::i32_at(file, at + 12),
+            left: little::i32_at(file, at),
+            top: little::i32_at(file, at + 4),
+            right: little::i32_at(file, at + 8),
+            bottom: little::i32_at(file, at + 12),
         }
     }
 }

@@ -6,9 +6,11 @@ use lib.ListN.{take, drop}
 use Rattle.laws.proofs.Part.{lent}
 use Rattle.view.specs.Shown.{Slice, PartOf}
 
-pub part-of :
-    (s : Slice) (start n name : ℕ)
-    → PartOf s start n (record { ptr = (s .ptr .0, start + s .ptr .1); name = name; now = take (start + n - start) (drop start (s .now)) })
+-- `&s[start..start + n]`
+abbrev pub taken : Slice → ℕ → ℕ → ℕ → Slice
+taken s start n name = record { ptr = (s .ptr .0, start + s .ptr .1); name = name; now = take (start + n - start) (drop start (s .now)) }
+
+pub part-of : (s : Slice) (start n name : ℕ) → PartOf s start n (taken s start n name)
 part-of s start n name = record { block = refl; place = omega arith; bytes = lent (s .now) start n }
 
 -- one place, and the same bytes

@@ -7,31 +7,20 @@ use Rattle.laws.specs.Choice.{pick}
 use Rattle.chunk.specs.LayerInformation.{layerAt}
 use Rattle.listing.specs.Listing.{listed}
 use Rattle.view.specs.Found.{soughtOf}
-use Rattle.view.specs.Shown.{Slice, PartOf}
+use Rattle.view.specs.declared.part.Part.{Part}
+use Rattle.view.specs.Shown.{ofInput, refusal, Slice, PartOf}
 
 -- how many bytes stand before the first zero, or how many there are
 unfoldable pub beforeZero : List ℕ → ℕ
 beforeZero [] = 0
 beforeZero (b ∷ bs) = pick (eqb b 0) 0 (suc (beforeZero bs))
 
-pub record NameView : Type 0 where
-  pub number : ℕ
-  pub start : ℕ
-  pub length : ℕ
-
-abbrev pub shows : ℕ → ℕ → NameView
-shows start length = record { number = 0; start = start; length = length }
-
--- a part of length 0 at the input's start
-abbrev pub refusal : ℕ → NameView
-refusal number = record { number = number; start = 0; length = 0 }
-
 -- the chunk begins with its 256 name bytes. 45: no layer k
-unfoldable pub nameView : List ℕ → ℕ → ℕ → NameView
+unfoldable pub nameView : List ℕ → ℕ → ℕ → Part
 nameView s room k =
     pick (eqb (listed s room .number) 0)
     (pick (soughtOf s room k .found)
-    (shows (soughtOf s room k .place + 14) (beforeZero (layerAt s (soughtOf s room k .place + 14) .name)))
+    (ofInput (soughtOf s room k .place + 14) (beforeZero (layerAt s (soughtOf s room k .place + 14) .name)))
     (refusal 45))
     (refusal (listed s room .number))
 

@@ -1,9 +1,24 @@
--- A part of a lent slice that is shown: where it lies, and what it holds.
+-- What a view shows: a part of a lent slice, by numbers, and as the slice that it is.
 use mathlib.Core.Path.{_≡_}
 use mathlib.Core.List.{List}
 use Prim.Native.Nat.{ℕ, _+_}
 use denote.Ref.{RefT}
 use Rattle.laws.specs.Lists.{part}
+use Rattle.view.specs.declared.part.Part.{Part}
+
+-- ### In numbers: the answer, which slice (0 input, 1 ramp), start and length
+
+abbrev pub ofInput : ℕ → ℕ → Part
+ofInput start n = record { number = 0; which = 0; start = start; length = n }
+
+abbrev pub ofRamp : Part
+ofRamp = record { number = 0; which = 1; start = 0; length = 1024 }
+
+-- a part of length 0 at the input's start
+abbrev pub refusal : ℕ → Part
+refusal number = record { number = number; which = 0; start = 0; length = 0 }
+
+-- ### As a slice
 
 abbrev pub Slice : Type 0
 Slice = RefT (List ℕ)

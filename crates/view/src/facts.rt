@@ -9,11 +9,13 @@ use chunk::layer_information::LayerChunk;
 ghost use mathlib.Core.Path.{_≡_};
 ghost use Rattle.view.specs.Facts.{imageFacts, layerFacts};
 
+#[repr(C)]
 pub struct ImageFacts {
     pub number: u32,
     pub image: ImageChunk,
 }
 
+#[repr(C)]
 pub struct LayerFacts {
     pub number: u32,
     pub layer: LayerChunk,

@@ -4,6 +4,7 @@ mod facts;
 mod found;
 mod layer_name;
 mod palette_view;
+mod part;
 mod zeros;
 
 pub use facts::ImageFacts;
@@ -11,4 +12,7 @@ pub use facts::LayerFacts;
 pub use facts::image_facts;
 pub use facts::layer_facts;
 pub use layer_name::name;
+pub use layer_name::name_part;
 pub use palette_view::palette;
+pub use palette_view::palette_part;
+pub use part::Part;

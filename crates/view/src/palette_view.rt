@@ -1,14 +1,36 @@
 // The palette view: a part of the file, or the caller's grey ramp.
 use crate::found::IMAGE;
 use crate::found::find;
+use crate::part::Part;
+use crate::part::RAMP;
 use chunk::image_attributes::ImageChunk;
-ghost use Rattle.view.specs.Palette.{PaletteShown};
+ghost use mathlib.Core.Path.{_≡_};
+ghost use Rattle.view.specs.Palette.{paletteView, PaletteShown};
 
-// The bytes of a grey ramp: 256 entries of four.
-const RAMP: usize = 1024;
+// Where the listed palette's entries are, or that it is the ramp for a grey image without one. The listing's own number; then 43: depth
+// 24; 44: grey, no palette listed, a ramp that is not 1,024 bytes.
+pub fn palette_part(input: &[u8], room: usize, ramp: usize) -> Part
+    ensures { λ r. ⌜ r ≡ paletteView (now (input .entry)) room ramp ⌝ }
+{
+    let found = find(input, room, 0);
+    if found.number != 0 {
+        return Part::refusal(found.number);
+    }
+    let image = ImageChunk::decode(input, IMAGE);
+    if image.depth == 24 {
+        return Part::refusal(43);
+    }
+    let entries = found.sought;
+    if entries.palette {
+        return Part::of_input(entries.start as usize, entries.stored as usize);
+    }
+    if ramp == RAMP {
+        return Part::of_ramp();
+    }
+    Part::refusal(44)
+}
 
-// Shows the listed palette's entries, or the ramp for a grey image without one. The listing's own number; then 43: depth 24; 44: grey, no
-// palette listed, a ramp that is not 1,024 bytes. A refusal shows a part of length 0 at the input's start.
+// Shows that part. A refusal shows a part of length 0 at the input's start.
 pub fn palette<'a, 'b: 'a>(
     input: &'a [u8],
     room: usize,
@@ -25,25 +47,12 @@ pub fn palette<'a, 'b: 'a>(
 fn shown<'a>(input: &'a [u8], room: usize, ramp: &'a [u8], number: &mut u32) -> &'a [u8]
     ensures { λ r. ⌜ PaletteShown (input .entry) room (ramp .entry) (now (number .exit)) r ⌝ }
 {
-    let found = find(input, room, 0);
-    *number = found.number;
-    if found.number != 0 {
-        return &input[0..0];
+    let part = palette_part(input, room, ramp.len());
+    let start = part.start;
+    let length = part.length;
+    *number = part.number;
+    if part.which == 1 {
+        return &ramp[start..start + length];
     }
-    let image = ImageChunk::decode(input, IMAGE);
-    if image.depth == 24 {
-        *number = 43;
-        return &input[0..0];
-    }
-    let entries = found.sought;
-    if entries.palette {
-        let start = entries.start as usize;
-        let stored = entries.stored as usize;
-        return &input[start..start + stored];
-    }
-    if ramp.len() == RAMP {
-        return ramp;
-    }
-    *number = 44;
-    &input[0..0]
+    &input[start..start + length]
 }

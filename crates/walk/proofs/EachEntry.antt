@@ -31,20 +31,3 @@ module _ {S : Type 0} (main len : ℕ) (look : Look S) (moves : MovesOn main len
     cut-each st at end levels order low start room k d h =
         let kept = run-kept main len look Both moves each st at end levels [] order low (start, along-end) in
         along-at (cut-reached main len look Both end levels room [] _ kept .holds .1) k d h
-
-  -- its bytes are in the input
-  abbrev Present : List Entry → Entry → Type 0
-  Present before e = e .place + e .owned ≤ len
-
-  present : (at end : ℕ) (e : Entry) (next : ℕ) → Owns len at end e next → Present [] e
-  present at end e next o = omega (arith, o .place, o .owned, o .present)
-
-  abbrev Anything : Family S
-  Anything levels at es st = Unit
-
-  pub cut-present :
-      (st : S) (at end levels : ℕ) → at ≤ end → levels ≤ main
-      → (room : ℕ) → let es = cut room (run look len st at end levels) .entries in (k : ℕ) (d : Entry) → k < length es → Present (take k es) (getD es k d)
-  cut-present st at end levels order low =
-      cut-each Anything (record { leaf = λ low o is h. tt; nest = λ low o is h. tt; out = λ deep low is h. tt }) Present
-      (record { leaf = λ low o is h. present _ _ _ _ o; nest = λ low o is h. present _ _ _ _ (o .owns) }) st at end levels order low tt

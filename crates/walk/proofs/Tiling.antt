@@ -93,9 +93,6 @@ module _ {S : Type 0} (main len : ℕ) (look : Look S) (moves : MovesOn main len
   whole a end p st es f = let e = f .ends .whole refl in (subst (Tiles a es) e (f .holds), e)
 
   module _ (st : S) (at end : ℕ) (order : at ≤ end) where
-    pub run-accepted : let w = run look len st at end main in w .number ≡ 0 → Tiles at (w .entries) len × (w .place ≡ len)
-    run-accepted accepted = whole at end _ _ _ (kept st at end main order (omega arith) .finished accepted)
-
     pub cut-accepted :
         (room : ℕ) → let r = cut room (run look len st at end main) in r .number ≡ 0 → Tiles at (r .entries) len × (r .place ≡ len)
     cut-accepted room accepted =

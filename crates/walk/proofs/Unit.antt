@@ -10,7 +10,7 @@ use Rattle.laws.proofs.Part.{part-longer}
 use Rattle.laws.proofs.Choice.{pick-yes, pick-no, pick-ind}
 use Rattle.walk.specs.Walk.{Step, Stop}
 use Rattle.walk.specs.Unit.{unit}
-use Rattle.walk.specs.Owed.{Keeps, unsure, soon, Beyond, refused, Waits, waits}
+use Rattle.walk.specs.Owed.{soon, Beyond, refused, Waits, waits}
 
 -- ### A unit's answer
 
@@ -44,15 +44,6 @@ module _ {S : Type 0} where
       (rule (part s at n)))
 
   module _ (main levels : ℕ) (s t : List ℕ) (at n : ℕ) (judge judge' : List ℕ → Step S) where
-    pub unit-keeps-to :
-        (k : Step S) → ((xs : List ℕ) → Keeps main levels (judge xs) (judge' xs)) → (at + n ≤ length s → k ≡ unit (s ++ t) at n judge')
-        → Keeps main levels (unit s at n judge) k
-    unit-keeps-to k = unit-to (Keeps main levels) s t at n judge judge' k (λ _. unsure soon)
-
-    pub unit-keeps :
-        ((xs : List ℕ) → Keeps main levels (judge xs) (judge' xs)) → Keeps main levels (unit s at n judge) (unit (s ++ t) at n judge')
-    unit-keeps rule = unit-keeps-to (unit (s ++ t) at n judge') rule (λ _. refl)
-
     -- a unit waits, if no entry that is judged by it ends before it
     pub unit-waits-to :
         (k : Step S) → (length s < at + n → Beyond (length s) main levels k)

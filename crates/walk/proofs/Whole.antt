@@ -5,7 +5,6 @@ use Prim.Native.Nat.{ℕ, _+_, _-_, _*_, _/_}
 use native.Mathlib.Omega.{arith}
 use lib.ListN.{length, take, drop}
 use lib.Seq.{take-all}
-use Rattle.laws.proofs.OneOutcome.{one}
 use Rattle.entry.specs.declared.Entry.{Entry}
 use Rattle.entry.specs.Entry.{size, numbers, stored, keep, write}
 use Rattle.entry.proofs.Table.{write-all}
@@ -69,11 +68,3 @@ module _ {S : Type 0} (w : Listing S) where
             kept room t r after m
             ∙ ap (λ (es : List Entry). numbers es ++ drop (size * length es) t) (take-all room (cut room w .entries) (cut-room room w));
       }
-
--- ### The public contract leaves one outcome
-
-pub one-outcome :
-    (a : Answer) (before : List ℕ) (n p k n' p' k' : ℕ) (after after' : List ℕ)
-    → Lists a before n p k after → Lists a before n' p' k' after' → (n ≡ n') × (p ≡ p') × (k ≡ k') × (after ≡ after')
-one-outcome a before n p k n' p' k' after after' x y =
-    (one (x .number-is) (y .number-is), one (x .place-is) (y .place-is), one (x .count-is) (y .count-is), one (x .table-is) (y .table-is))

@@ -203,7 +203,7 @@ fn bits_of(x: f64) -> u64 {
 // A value as its bits, and what is stored per unit of its metric: the bits of the dots per centimetre, where there are any.
 fn dots(asked: &[u8], bits: u64, metric: u8) {
     let r = Resolution {
-        value: number::double_of(bits),
+        value: little::double_of(bits),
         metric,
     };
     text(asked);

@@ -2,11 +2,8 @@
 // and what is shown; a name of 256 bytes fills its field.
 use build::files;
 use build::made;
-use chunk::area::Area;
-use chunk::image_attributes::ImageChunk;
 use chunk::layer_information::LayerChunk;
 use print::text;
-use rect::Rect;
 
 // Bytes of a buffer that the longest file fits, and entries that none of them exceeds.
 const SIZE: usize = 1024;
@@ -79,86 +76,21 @@ fn ramps(b: &mut [u8]) {
     ramped(made(b, 0));
 }
 
-fn flag(b: bool) {
-    if b {
-        text(b" on");
-        return;
-    }
-    text(b" off");
+fn name_bytes(l: LayerChunk) {
+    let name = l.name;
+    print::bytes(&name);
 }
 
-fn byte(x: u8) {
-    print::number(x as u64);
-}
-
-fn word(x: u16) {
-    print::number(x as u64);
-}
-
-fn dword(x: u32) {
-    print::number(x as u64);
-}
-
-fn corners(r: Rect) {
-    print::signed(r.left);
-    print::signed(r.top);
-    print::signed(r.right);
-    print::signed(r.bottom);
-}
-
-fn area(a: Area) {
-    corners(a.border);
-    corners(a.saved);
-}
-
-fn image_line(i: ImageChunk) {
-    print::signed(i.width);
-    print::signed(i.height);
-    print::number(i.bits);
-    byte(i.resolution.metric);
-    word(i.compression);
-    word(i.depth);
-    word(i.planes);
-    colours(i);
-    text(b"\n");
-}
-
-fn colours(i: ImageChunk) {
-    dword(i.colours);
-    byte(i.grey);
-    dword(i.total);
-    print::signed(i.active);
-    word(i.layers);
+fn range_bytes(l: LayerChunk) {
+    let ranges = l.ranges;
+    print::bytes(&ranges);
 }
 
 fn layer_line(l: LayerChunk) {
-    let name = l.name;
-    print::bytes(&name);
-    byte(l.kind);
-    area(l.image);
-    byte(l.opacity);
-    byte(l.blending);
-    flags(l);
-    ranges(l);
+    tell::layer(l);
+    name_bytes(l);
+    range_bytes(l);
     text(b"\n");
-}
-
-fn ranges(l: LayerChunk) {
-    let ranges = l.ranges;
-    print::bytes(&ranges);
-    word(l.bitmaps);
-    word(l.channels);
-}
-
-fn flags(l: LayerChunk) {
-    flag(l.visible);
-    flag(l.protected);
-    byte(l.group);
-    area(l.mask);
-    flag(l.linked);
-    flag(l.disabled);
-    flag(l.inverted);
-    word(l.blends);
 }
 
 fn image(asked: &[u8], input: &[u8], room: usize) {
@@ -166,7 +98,8 @@ fn image(asked: &[u8], input: &[u8], room: usize) {
     text(asked);
     print::number(f.number as u64);
     text(b" |");
-    image_line(f.image);
+    tell::image(f.image);
+    text(b"\n");
 }
 
 fn layer(asked: &[u8], input: &[u8], room: usize, k: u32) {
@@ -206,7 +139,7 @@ fn facts_of(input: &[u8]) {
     name(b"name 0, no room:", input, 0, 0);
 }
 
-fn facts(b: &mut [u8]) {
+fn views(b: &mut [u8]) {
     text(b"facts, a name of 256 bytes\n");
     let n = named(b, 256);
     facts_of(made(b, n));
@@ -220,5 +153,5 @@ fn main() {
     let b: &mut [u8] = &mut buffer;
     palettes(b);
     ramps(b);
-    facts(b);
+    views(b);
 }

@@ -1,5 +1,5 @@
 use mathlib.Core.Path.{refl}
-use Rattle.number.specs.Number.{le}
+use Rattle.little.specs.Number.{le}
 use Rattle.chunk.specs.BlockHeader.{isMarked}
 use Rattle.chunk.proofs.block_header.BlockHeader.marked.Statement.{statement}
 use Rattle.chunk.proofs.block_header.BlockHeader.marked.Tie as tie

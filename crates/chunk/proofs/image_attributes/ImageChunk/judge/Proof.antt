@@ -1,5 +1,5 @@
 use mathlib.Core.Path.{refl, _∙_, ap}
-use Rattle.number.proofs.Signed.{back}
+use Rattle.little.proofs.Signed.{back}
 use Rattle.chunk.specs.ImageAttributes.{isSide, imageFault}
 use Rattle.chunk.proofs.Earliest.{next}
 use borrow.Author.Needs.{needs}

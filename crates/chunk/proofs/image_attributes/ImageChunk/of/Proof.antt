@@ -1,4 +1,4 @@
-use Rattle.number.proofs.Signed.{back}
+use Rattle.little.proofs.Signed.{back}
 use Rattle.chunk.specs.ImageAttributes.{imageOf}
 use borrow.Author.Needs.{needs}
 use Rattle.chunk.proofs.image_attributes.ImageChunk.of.Statement.{statement}

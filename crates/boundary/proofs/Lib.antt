@@ -1,0 +1,2 @@
+-- Laws of answers as numbers.
+pub mod OneOutcome

@@ -1,0 +1,2 @@
+-- What numbers tell of an answer.
+pub mod Paper

@@ -1,0 +1,2 @@
+-- Laws of what the exported functions leave.
+pub mod Outcomes

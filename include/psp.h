@@ -1,0 +1,251 @@
+/*
+ * psp.h: reading Paint Shop Pro 3.0 files, by a library whose every function is proved.
+ *
+ * The library allocates nothing, keeps nothing between calls and stops for no input: each function tests its own arguments and gives one
+ * answer for every input, however damaged or short. The numbers of its answers are document 01's, and stand below.
+ *
+ * A buffer is a pointer and its length in elements. No pointer may be null, also at length 0. Buffers that a function writes must not
+ * overlap any other buffer of the call.
+ */
+#ifndef PSP_H
+#define PSP_H
+
+#include <stddef.h>
+#include <stdint.h>
+
+#if SIZE_MAX != UINT64_MAX
+#error "the library is built for 64-bit machines"
+#endif
+
+#ifdef __cplusplus
+extern "C" {
+#endif
+
+/* ---- Answers ---- */
+
+/* Every function: all is well. */
+#define PSP_ACCEPTED 0
+
+/* Listing, and everything that lists first. */
+#define PSP_OVER_LIMIT 1       /* input over the limit */
+#define PSP_ENDS_TOO_SOON 2    /* ends too soon */
+#define PSP_WRONG_SIGNATURE 3  /* signature wrong */
+#define PSP_WRONG_VERSION 4    /* version not 3.0 */
+#define PSP_WRONG_MARK 5       /* block mark is not 7E 42 4B 00 */
+#define PSP_WRONG_LENGTH 6     /* length does not fit */
+#define PSP_OUT_OF_PLACE 7     /* known block out of place */
+#define PSP_WRONG_FIELD 8      /* field value not permitted */
+#define PSP_NOT_EXPECTED 9     /* layer or channel not expected */
+#define PSP_MISSING 10         /* parent ended with layers or channels missing */
+#define PSP_NOT_READABLE 11    /* compression code 2 */
+#define PSP_TABLE_FULL 12      /* table full */
+
+/* Reading a plane. */
+#define PSP_PLANE_NO_ROOM 20       /* destination shorter than the plane */
+#define PSP_PLANE_COUNT_128 21     /* a packet's count is 128 */
+#define PSP_PLANE_DATA_MISSING 22  /* packet data missing, or the plane not full at the stream's end */
+#define PSP_PLANE_TOO_MUCH 23      /* more than the plane has left */
+#define PSP_PLANE_UNKNOWN_CODE 24  /* code not 0 or 1 */
+#define PSP_PLANE_RAW_LENGTH 25    /* raw length differs from the plane length */
+#define PSP_PLANE_OVER_LIMIT 26    /* plane length over the limit */
+#define PSP_PLANE_OUTSIDE 27       /* stored part not inside the input */
+
+/* Packing a plane. */
+#define PSP_PACK_NO_ROOM 30     /* destination shorter than the packed form */
+#define PSP_PACK_OVER_LIMIT 31  /* plane over the limit */
+
+/* Placing a plane on a canvas. */
+#define PSP_CANVAS_WRONG 40  /* canvas side not 1 to 4,096, or canvas length not their product */
+#define PSP_RECT_WRONG 41    /* rectangle breaks a coordinate, order or side rule */
+#define PSP_PLANE_WRONG 42   /* plane length not row times height */
+
+/* Views. */
+#define PSP_NO_PALETTE 43  /* depth 24 */
+#define PSP_NO_RAMP 44     /* grey, no palette listed, ramp not 1,024 bytes */
+#define PSP_NO_LAYER 45    /* no layer k */
+
+/* ---- Limits ---- */
+
+#define PSP_INPUT_LIMIT 67108864  /* bytes of an input */
+#define PSP_PLANE_LIMIT 16777216  /* bytes of a plane */
+#define PSP_SIDE_LIMIT 4096       /* image sides, and sides of a saved rectangle */
+#define PSP_LAYER_LIMIT 64        /* layers of an image */
+#define PSP_ENTRY_NUMBERS 13      /* numbers of an entry in a table */
+
+/* ---- Listing ---- */
+
+/* An entry of the table: a block of the file. A number without meaning for its kind is 0. */
+typedef struct psp_entry {
+  uint32_t id;       /* 0 image, 2 palette, 3 bank, 4 layer, 5 channel; any id when skipped */
+  uint32_t skipped;  /* 0 or 1 */
+  uint32_t level;    /* 0 main, 1 in the bank, 2 in a layer */
+  uint32_t place;    /* where the block's header starts */
+  uint32_t owned;    /* bytes owned; all of them tile an accepted input behind its 36-byte header */
+  uint32_t layer;    /* layers count from 0 in file order */
+  uint32_t bitmap;   /* 0 image, 1 transparency mask, 2 user mask */
+  uint32_t channel;  /* 0 composite, 1 red, 2 green, 3 blue */
+  uint32_t start;    /* content start */
+  uint32_t stored;   /* stored length */
+  uint32_t width;    /* of the plane, in pixels */
+  uint32_t height;   /* of the plane, in rows */
+  uint32_t plane;    /* plane length in bytes, rows padded to 4 */
+} psp_entry;
+
+typedef struct psp_listed {
+  uint32_t number;  /* 0 to 12 */
+  size_t place;     /* where; for 0 the input length */
+  size_t count;     /* entries listed, also when refused */
+} psp_listed;
+
+/* Lists an input into a table of 32-bit numbers, thirteen an entry, room rounded down: the first count entries stand in the table, also
+ * when refused (0 to 12), and the rest of it is untouched. */
+psp_listed psp_list(const uint8_t *input, size_t length, uint32_t *table, size_t numbers);
+
+/* Gives the answer (0 to 12) of a listing in a room of so many entries, and stores nothing: with room SIZE_MAX the count is what a table
+ * needs. */
+psp_listed psp_count(const uint8_t *input, size_t length, size_t room);
+
+/* Lists an input into a table and into records alike, in the smaller room of the two (0 to 12): the first count entries stand in both,
+ * and both rests are untouched. */
+psp_listed psp_list_records(const uint8_t *input, size_t length, uint32_t *table, size_t numbers, psp_entry *records, size_t room);
+
+/* ---- Planes ---- */
+
+typedef struct psp_plane {
+  uint32_t number;  /* 0, or 20 to 27 */
+  size_t place;     /* inside the stored channel; for 0 its length */
+  size_t bytes;     /* bytes written: the plane length for 0, else 0 */
+} psp_plane;
+
+/* Reads a stored channel of an input, the part from start for stored bytes, into the first plane bytes of dest; code is the image's
+ * compression, 0 raw or 1 run lengths (0, 20 to 27). The rest of dest is untouched, and all of it when refused. */
+psp_plane psp_read_plane(const uint8_t *input, size_t length, size_t start, size_t stored, size_t plane, uint32_t code, uint8_t *dest,
+                         size_t room);
+
+/* Reads a stream of run-length packets into the first plane bytes of dest (0, 20 to 23). The rest of dest is untouched, and all of it
+ * when refused. */
+psp_plane psp_unpack(const uint8_t *stream, size_t length, uint8_t *dest, size_t room, size_t plane);
+
+typedef struct psp_packed {
+  uint32_t number;  /* 0, 30 or 31 */
+  size_t length;    /* bytes of the packed form; 0 when refused */
+} psp_packed;
+
+/* Packs a plane into dest as run-length packets, at most length + (length + 126) / 127 bytes (0, 30, 31). What follows the packed form is
+ * untouched, and all of dest when refused. */
+psp_packed psp_pack(const uint8_t *plane, size_t length, uint8_t *dest, size_t room);
+
+/* ---- Rectangles and canvas ---- */
+
+/* Signed corners, the lower right one exclusive. */
+typedef struct psp_rect {
+  int32_t left;
+  int32_t top;
+  int32_t right;
+  int32_t bottom;
+} psp_rect;
+
+/* Places an 8-bit plane of rectangle r on a canvas of one byte a pixel (0, 40, 41, 42): each canvas pixel inside r takes its byte, row
+ * padding and outside pixels take no part. The other pixels are untouched, and the whole canvas when refused. */
+uint32_t psp_place(uint32_t width, uint32_t height, uint8_t *canvas, size_t pixels, psp_rect r, const uint8_t *plane, size_t length);
+
+/* Gives the pixels that two rectangles share, and 0,0,0,0 where there are none. */
+psp_rect psp_intersect(psp_rect a, psp_rect b);
+
+/* ---- Views of an accepted input ---- */
+
+/* A part of a slice that the caller lent: which slice, 0 the input or 1 the ramp, where it starts and how long it is. */
+typedef struct psp_part {
+  uint32_t number;  /* 0 to 12, 43 to 45 */
+  uint32_t which;   /* 0 input, 1 ramp; 0 when refused */
+  size_t start;     /* 0 when refused */
+  size_t length;    /* 0 when refused */
+} psp_part;
+
+/* Shows the palette's entries, four bytes each, or the grey ramp of an image without one; the input is listed first in a room of so many
+ * entries (0 to 12, 43, 44). Nothing is written. */
+psp_part psp_palette(const uint8_t *input, size_t length, size_t room, const uint8_t *ramp, size_t ramp_length);
+
+/* Shows the name of layer k, its bytes before the first zero or all 256; the input is listed first in a room of so many entries (0 to 12,
+ * 45). Nothing is written. */
+psp_part psp_name(const uint8_t *input, size_t length, size_t room, uint32_t k);
+
+/* A value with its metric: 0 unknown, 1 dots an inch, 2 dots a centimetre. */
+typedef struct psp_resolution {
+  double value;
+  uint8_t metric;
+} psp_resolution;
+
+/* The image attributes chunk. */
+typedef struct psp_image_chunk {
+  int32_t width;
+  int32_t height;
+  uint64_t bits;  /* the 64 bits of the resolution's value, also where it is no number */
+  psp_resolution resolution;
+  uint16_t compression;  /* 0 raw, 1 run lengths */
+  uint16_t depth;        /* 1, 4, 8 or 24 */
+  uint16_t planes;
+  uint32_t colours;
+  uint8_t grey;
+  uint32_t total;
+  int32_t active;
+  uint16_t layers;
+} psp_image_chunk;
+
+typedef struct psp_image_facts {
+  uint32_t number;  /* 0 to 12 */
+  psp_image_chunk image;
+} psp_image_facts;
+
+/* Gives every field of the image chunk; the input is listed first in a room of so many entries (0 to 12). A refusal gives zeros. Nothing
+ * is written. */
+psp_image_facts psp_read_image_facts(const uint8_t *input, size_t length, size_t room);
+
+/* A border rectangle, and the saved rectangle inside it. */
+typedef struct psp_area {
+  psp_rect border;
+  psp_rect saved;
+} psp_area;
+
+/* The layer information chunk; a flag is 0 or 1. */
+typedef struct psp_layer_chunk {
+  uint8_t name[256];
+  uint8_t kind;
+  psp_area image;
+  uint8_t opacity;
+  uint8_t blending;
+  uint8_t visible;
+  uint8_t transparency_protected;
+  uint8_t group;
+  psp_area mask;
+  uint8_t linked;
+  uint8_t disabled;
+  uint8_t inverted;
+  uint16_t blends;
+  uint8_t ranges[40];
+  uint16_t bitmaps;
+  uint16_t channels;
+} psp_layer_chunk;
+
+typedef struct psp_layer_facts {
+  uint32_t number;  /* 0 to 12, 45 */
+  psp_layer_chunk layer;
+} psp_layer_facts;
+
+/* Gives every field of layer k's chunk; the input is listed first in a room of so many entries (0 to 12, 45). A refusal gives zeros.
+ * Nothing is written. */
+psp_layer_facts psp_read_layer_facts(const uint8_t *input, size_t length, size_t room, uint32_t k);
+
+typedef struct psp_dots {
+  uint32_t known;  /* 0 or 1 */
+  double value;    /* 0 where there are none */
+} psp_dots;
+
+/* Gives the dots per centimetre of a resolution, where there are any. */
+psp_dots psp_dots_per_centimetre(double value, uint8_t metric);
+
+#ifdef __cplusplus
+}
+#endif
+
+#endif
