@@ -1,0 +1,37 @@
+//! `psp list`: document 01's listing.
+
+use crate::accepted;
+use crate::arguments::Arguments;
+use crate::failure::Failure;
+use crate::lines;
+use crate::output;
+use crate::psp::ffi::ACCEPTED;
+use std::ffi::OsString;
+use std::io::Write;
+
+pub const HELP: &str = "\
+psp list FILE
+
+Lists the blocks of a file in file order. The first line has answer number, place and count; each
+line behind it is an entry: index, kind, level, place, bytes owned, and then
+  layer           its number
+  channel         layer, bitmap, channel, content start, stored length, width, height, plane length
+  palette, skip   content start, stored length; a skip ends with its id
+Of a refused file, the entries found before the place are listed.
+";
+
+pub fn run(words: &[OsString]) -> Result<(), Failure> {
+    let [file] = Arguments::parse(words, &[])?.operands("list FILE")?;
+    let input = accepted::read(&file)?;
+    let (answer, table) = accepted::list(&input)?;
+    let mut out = output::standard();
+    writeln!(out, "{}", lines::answer_line(&answer))?;
+    for (index, entry) in lines::entries(&table).enumerate() {
+        writeln!(out, "{}", lines::entry_line(index, &entry))?;
+    }
+    out.flush()?;
+    match answer.number {
+        ACCEPTED => Ok(()),
+        _ => Err(accepted::refused(&answer)),
+    }
+}

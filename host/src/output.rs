@@ -1,0 +1,48 @@
+//! Where a command prints.
+
+use std::fs;
+use std::io::{self, BufWriter, Stdout, Write};
+
+/// Standard output, gathered; it ends with a flush, whose error is the command's.
+pub fn standard() -> BufWriter<Stdout> {
+    BufWriter::new(io::stdout())
+}
+
+/// A sentence on standard error; if that is closed too, nobody is left to tell.
+pub fn say(sentence: &str) {
+    let _ = writeln!(io::stderr(), "psp: {}", sentence);
+}
+
+/// A line on standard error that is written over, and only if that is a terminal; it is cleared
+/// before anything else is said.
+pub struct Progress {
+    on_terminal: bool,
+}
+
+impl Progress {
+    pub fn new() -> Progress {
+        let target = fs::canonicalize("/dev/stderr").unwrap_or_default();
+        let target = target.to_string_lossy();
+        Progress {
+            on_terminal: target.starts_with("/dev/pts/") || target.starts_with("/dev/tty"),
+        }
+    }
+
+    pub fn show(&self, state: &str) {
+        if self.on_terminal {
+            let _ = write!(io::stderr(), "\r{} ...\x1B[K", state);
+        }
+    }
+
+    pub fn clear(&self) {
+        if self.on_terminal {
+            let _ = write!(io::stderr(), "\r\x1B[K");
+        }
+    }
+}
+
+impl Drop for Progress {
+    fn drop(&mut self) {
+        self.clear();
+    }
+}

@@ -1,0 +1,272 @@
+//! The C boundary: the structs and functions of include/psp.h, name by name and in its order.
+
+use std::os::raw::c_double;
+
+// Every function: all is well.
+pub const ACCEPTED: u32 = 0;
+
+// Listing, and everything that lists first.
+pub const OVER_LIMIT: u32 = 1;
+pub const ENDS_TOO_SOON: u32 = 2;
+pub const WRONG_SIGNATURE: u32 = 3;
+pub const WRONG_VERSION: u32 = 4;
+pub const WRONG_MARK: u32 = 5;
+pub const WRONG_LENGTH: u32 = 6;
+pub const OUT_OF_PLACE: u32 = 7;
+pub const WRONG_FIELD: u32 = 8;
+pub const NOT_EXPECTED: u32 = 9;
+pub const MISSING: u32 = 10;
+pub const NOT_READABLE: u32 = 11;
+pub const TABLE_FULL: u32 = 12;
+
+// Reading a plane.
+pub const PLANE_NO_ROOM: u32 = 20;
+pub const PLANE_COUNT_128: u32 = 21;
+pub const PLANE_DATA_MISSING: u32 = 22;
+pub const PLANE_TOO_MUCH: u32 = 23;
+pub const PLANE_UNKNOWN_CODE: u32 = 24;
+pub const PLANE_RAW_LENGTH: u32 = 25;
+pub const PLANE_OVER_LIMIT: u32 = 26;
+pub const PLANE_OUTSIDE: u32 = 27;
+
+// Packing a plane.
+pub const PACK_NO_ROOM: u32 = 30;
+pub const PACK_OVER_LIMIT: u32 = 31;
+
+// Placing a plane on a canvas.
+pub const CANVAS_WRONG: u32 = 40;
+pub const RECT_WRONG: u32 = 41;
+pub const PLANE_WRONG: u32 = 42;
+
+// Views.
+pub const NO_PALETTE: u32 = 43;
+pub const NO_RAMP: u32 = 44;
+pub const NO_LAYER: u32 = 45;
+
+// Limits.
+pub const INPUT_LIMIT: usize = 67_108_864;
+pub const PLANE_LIMIT: usize = 16_777_216;
+pub const SIDE_LIMIT: u32 = 4_096;
+pub const LAYER_LIMIT: u32 = 64;
+pub const ENTRY_NUMBERS: usize = 13;
+
+/// An entry of the table: a block of the file.
+#[repr(C)]
+#[derive(Clone, Copy, Debug, Default, PartialEq, Eq)]
+pub struct Entry {
+    pub id: u32,
+    pub skipped: u32,
+    pub level: u32,
+    pub place: u32,
+    pub owned: u32,
+    pub layer: u32,
+    pub bitmap: u32,
+    pub channel: u32,
+    pub start: u32,
+    pub stored: u32,
+    pub width: u32,
+    pub height: u32,
+    pub plane: u32,
+}
+
+/// The answer of a listing.
+#[repr(C)]
+#[derive(Clone, Copy, Debug, PartialEq, Eq)]
+pub struct Listed {
+    pub number: u32,
+    pub place: usize,
+    pub count: usize,
+}
+
+/// The answer of reading a plane.
+#[repr(C)]
+#[derive(Clone, Copy, Debug, PartialEq, Eq)]
+pub struct Plane {
+    pub number: u32,
+    pub place: usize,
+    pub bytes: usize,
+}
+
+/// The answer of packing a plane.
+#[repr(C)]
+#[derive(Clone, Copy, Debug, PartialEq, Eq)]
+pub struct Packed {
+    pub number: u32,
+    pub length: usize,
+}
+
+/// Signed corners, the lower right one exclusive.
+#[repr(C)]
+#[derive(Clone, Copy, Debug, Default, PartialEq, Eq)]
+pub struct Rect {
+    pub left: i32,
+    pub top: i32,
+    pub right: i32,
+    pub bottom: i32,
+}
+
+/// A part of a slice that the caller lent.
+#[repr(C)]
+#[derive(Clone, Copy, Debug, PartialEq, Eq)]
+pub struct Part {
+    pub number: u32,
+    pub which: u32,
+    pub start: usize,
+    pub length: usize,
+}
+
+/// A value with its metric: 0 unknown, 1 dots an inch, 2 dots a centimetre.
+#[repr(C)]
+#[derive(Clone, Copy, Debug)]
+pub struct Resolution {
+    pub value: c_double,
+    pub metric: u8,
+}
+
+/// The image attributes chunk.
+#[repr(C)]
+#[derive(Clone, Copy, Debug)]
+pub struct ImageChunk {
+    pub width: i32,
+    pub height: i32,
+    pub bits: u64,
+    pub resolution: Resolution,
+    pub compression: u16,
+    pub depth: u16,
+    pub planes: u16,
+    pub colours: u32,
+    pub grey: u8,
+    pub total: u32,
+    pub active: i32,
+    pub layers: u16,
+}
+
+/// The image facts, zeros when refused.
+#[repr(C)]
+#[derive(Clone, Copy, Debug)]
+pub struct ImageFacts {
+    pub number: u32,
+    pub image: ImageChunk,
+}
+
+/// A border rectangle, and the saved rectangle inside it.
+#[repr(C)]
+#[derive(Clone, Copy, Debug, Default, PartialEq, Eq)]
+pub struct Area {
+    pub border: Rect,
+    pub saved: Rect,
+}
+
+/// The layer information chunk; a flag is 0 or 1.
+#[repr(C)]
+#[derive(Clone, Copy, Debug)]
+pub struct LayerChunk {
+    pub name: [u8; 256],
+    pub kind: u8,
+    pub image: Area,
+    pub opacity: u8,
+    pub blending: u8,
+    pub visible: u8,
+    pub transparency_protected: u8,
+    pub group: u8,
+    pub mask: Area,
+    pub linked: u8,
+    pub disabled: u8,
+    pub inverted: u8,
+    pub blends: u16,
+    pub ranges: [u8; 40],
+    pub bitmaps: u16,
+    pub channels: u16,
+}
+
+/// A layer's facts, zeros when refused.
+#[repr(C)]
+#[derive(Clone, Copy, Debug)]
+pub struct LayerFacts {
+    pub number: u32,
+    pub layer: LayerChunk,
+}
+
+/// Dots per centimetre, where there are any.
+#[repr(C)]
+#[derive(Clone, Copy, Debug)]
+pub struct Dots {
+    pub known: u32,
+    pub value: c_double,
+}
+
+extern "C" {
+    pub fn psp_list(input: *const u8, length: usize, table: *mut u32, numbers: usize) -> Listed;
+    pub fn psp_count(input: *const u8, length: usize, room: usize) -> Listed;
+    pub fn psp_list_records(
+        input: *const u8,
+        length: usize,
+        table: *mut u32,
+        numbers: usize,
+        records: *mut Entry,
+        room: usize,
+    ) -> Listed;
+    pub fn psp_read_plane(
+        input: *const u8,
+        length: usize,
+        start: usize,
+        stored: usize,
+        plane: usize,
+        code: u32,
+        dest: *mut u8,
+        room: usize,
+    ) -> Plane;
+    pub fn psp_unpack(
+        stream: *const u8,
+        length: usize,
+        dest: *mut u8,
+        room: usize,
+        plane: usize,
+    ) -> Plane;
+    pub fn psp_pack(plane: *const u8, length: usize, dest: *mut u8, room: usize) -> Packed;
+    pub fn psp_place(
+        width: u32,
+        height: u32,
+        canvas: *mut u8,
+        pixels: usize,
+        r: Rect,
+        plane: *const u8,
+        length: usize,
+    ) -> u32;
+    pub fn psp_intersect(a: Rect, b: Rect) -> Rect;
+    pub fn psp_palette(
+        input: *const u8,
+        length: usize,
+        room: usize,
+        ramp: *const u8,
+        ramp_length: usize,
+    ) -> Part;
+    pub fn psp_name(input: *const u8, length: usize, room: usize, k: u32) -> Part;
+    pub fn psp_read_image_facts(input: *const u8, length: usize, room: usize) -> ImageFacts;
+    pub fn psp_read_layer_facts(input: *const u8, length: usize, room: usize, k: u32)
+        -> LayerFacts;
+    pub fn psp_dots_per_centimetre(value: c_double, metric: u8) -> Dots;
+}
+
+#[cfg(test)]
+mod tests {
+    use super::*;
+    use std::mem::size_of;
+
+    /// The sizes that a C compiler gives the structs of psp.h on a 64-bit machine.
+    #[test]
+    fn structs_have_the_sizes_of_the_header() {
+        assert_eq!(size_of::<Entry>(), 52);
+        assert_eq!(size_of::<Listed>(), 24);
+        assert_eq!(size_of::<Plane>(), 24);
+        assert_eq!(size_of::<Packed>(), 16);
+        assert_eq!(size_of::<Rect>(), 16);
+        assert_eq!(size_of::<Part>(), 24);
+        assert_eq!(size_of::<Resolution>(), 16);
+        assert_eq!(size_of::<ImageChunk>(), 64);
+        assert_eq!(size_of::<ImageFacts>(), 72);
+        assert_eq!(size_of::<LayerChunk>(), 384);
+        assert_eq!(size_of::<LayerFacts>(), 388);
+        assert_eq!(size_of::<Dots>(), 16);
+    }
+}

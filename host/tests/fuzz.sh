@@ -1,0 +1,55 @@
+# Damaged files: every command must end with status 0, 1 or 2, and the listing must be the independent implementation's; sourced by
+# host/check.
+# shellcheck shell=sh disable=SC2154 # variables of host/check
+
+seed=1
+# Sets $drawn to the next number below $1: a linear congruence, the same numbers in every run.
+draw() {
+  seed=$(((seed * 1103515245 + 12345) % 2147483648))
+  drawn=$((seed / 65536 % $1))
+}
+
+# Damages one byte or cuts the file; most bytes of interest are near the start.
+damage() {
+  size=$(wc -c < fuzz.psp)
+  draw 2
+  if [ "$drawn" -eq 0 ]; then draw "$size"; else draw 800; fi
+  [ "$drawn" -lt "$size" ] || return 0
+  at=$drawn
+  draw 8
+  case $drawn in
+  0) head -c "$at" fuzz.psp > shorter && mv shorter fuzz.psp ;;
+  1) put fuzz.psp "$at" '\000' ;;
+  2) put fuzz.psp "$at" '\377' ;;
+  3) put fuzz.psp "$at" '\200' ;;
+  *) draw 8 && put fuzz.psp "$at" "\\00$drawn" ;;
+  esac
+}
+
+run=0
+while [ $run -lt 300 ]; do
+  case $((run % 5)) in
+  0) cp mug.psp fuzz.psp ;;
+  1) cp bits4.psp fuzz.psp ;;
+  2) cp skips.psp fuzz.psp ;;
+  3) cp greys.psp fuzz.psp ;;
+  4) cp palette.psp fuzz.psp ;;
+  esac
+  damage
+  [ $((run % 3)) -ne 0 ] || damage
+  "$psp" list fuzz.psp > listed 2> said
+  ends_well "fuzz $run: list" $?
+  "$reference" list < fuzz.psp > expected
+  cmp -s listed expected || bad "fuzz $run: the listing is not the independent one's"
+  case $((run % 6)) in
+  0) set -- layers fuzz.psp ;;
+  1) set -- facts fuzz.psp ;;
+  2) set -- palette fuzz.psp ;;
+  3) set -- plane fuzz.psp 0 0 $((run % 4)) -o fuzz.pgm ;;
+  4) set -- compare fuzz.psp true.csv ;;
+  5) set -- compare mug.psp fuzz.psp ;;
+  esac
+  "$psp" "$@" > printed 2> said
+  ends_well "fuzz $run: $1" $?
+  run=$((run + 1))
+done

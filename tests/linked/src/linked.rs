@@ -1,0 +1,234 @@
+//! The library under test, through its C boundary: every answer is turned into
+//! the reference's form field by field, refusals as they come.
+
+use psp::ffi;
+use reference::case::Stored;
+use reference::library::{Library, Listed, Record};
+use reference::psp::chunks::{ImageChunk, LayerChunk, Resolution};
+use reference::psp::planes::PlaneAnswer;
+use reference::psp::rectangle::Rectangle;
+use reference::psp::views::{Lender, PaletteView};
+
+pub struct Linked;
+
+fn listed(answer: psp::Listed) -> Listed {
+    (answer.number, answer.place as u64, answer.count as u64)
+}
+
+fn plane_answer(answer: psp::Plane) -> PlaneAnswer {
+    PlaneAnswer {
+        number: answer.number,
+        place: answer.place as u64,
+        bytes: answer.bytes as u64,
+    }
+}
+
+fn to_rect(rectangle: Rectangle) -> psp::Rect {
+    let [left, top, right, bottom] = rectangle.corners();
+    psp::Rect {
+        left,
+        top,
+        right,
+        bottom,
+    }
+}
+
+fn to_rectangle(rect: psp::Rect) -> Rectangle {
+    Rectangle {
+        left: rect.left,
+        top: rect.top,
+        right: rect.right,
+        bottom: rect.bottom,
+    }
+}
+
+fn to_entry(record: &Record) -> psp::Entry {
+    let [id, skipped, level, place, owned, layer, bitmap, channel, start, stored, width, height, plane] =
+        *record;
+    psp::Entry {
+        id,
+        skipped,
+        level,
+        place,
+        owned,
+        layer,
+        bitmap,
+        channel,
+        start,
+        stored,
+        width,
+        height,
+        plane,
+    }
+}
+
+fn to_record(entry: &psp::Entry) -> Record {
+    [
+        entry.id,
+        entry.skipped,
+        entry.level,
+        entry.place,
+        entry.owned,
+        entry.layer,
+        entry.bitmap,
+        entry.channel,
+        entry.start,
+        entry.stored,
+        entry.width,
+        entry.height,
+        entry.plane,
+    ]
+}
+
+/// The bits have to be the value's. A NaN may lose its pattern on the way as a
+/// double, and the bits are there for it.
+fn resolution(image: &ffi::ImageChunk) -> Resolution {
+    let (value, metric) = (image.resolution.value, image.resolution.metric);
+    let bits = f64::from_bits(image.bits);
+    let same = value.to_bits() == image.bits || (value.is_nan() && bits.is_nan());
+    assert!(same, "the resolution {} has the bits of {}", value, bits);
+    Resolution {
+        value: bits,
+        metric,
+    }
+}
+
+/// A flag is 0 or 1, and nothing else.
+fn flag(byte: u8) -> bool {
+    assert!(byte <= 1, "a flag is {}", byte);
+    byte == 1
+}
+
+fn image_chunk(image: &ffi::ImageChunk) -> ImageChunk {
+    ImageChunk {
+        width: image.width,
+        height: image.height,
+        resolution: resolution(image),
+        compression: image.compression,
+        depth: image.depth,
+        planes: image.planes,
+        colours: image.colours,
+        grey: image.grey,
+        total_size: image.total,
+        active_layer: image.active,
+        layer_count: image.layers,
+    }
+}
+
+fn layer_chunk(layer: &ffi::LayerChunk) -> LayerChunk {
+    LayerChunk {
+        name: layer.name,
+        kind: layer.kind,
+        image_border: to_rectangle(layer.image.border),
+        image_saved: to_rectangle(layer.image.saved),
+        opacity: layer.opacity,
+        blending: layer.blending,
+        visible: flag(layer.visible),
+        protected: flag(layer.transparency_protected),
+        group: layer.group,
+        mask_border: to_rectangle(layer.mask.border),
+        mask_saved: to_rectangle(layer.mask.saved),
+        linked: flag(layer.linked),
+        disabled: flag(layer.disabled),
+        inverted: flag(layer.inverted),
+        blend_count: layer.blends,
+        blend_ranges: layer.ranges,
+        bitmaps: layer.bitmaps,
+        channels: layer.channels,
+    }
+}
+
+impl Library for Linked {
+    fn list(&self, input: &[u8], table: &mut [u32]) -> Listed {
+        listed(psp::list(input, table))
+    }
+
+    fn list_records(&self, input: &[u8], table: &mut [u32], records: &mut [Record]) -> Listed {
+        let mut entries: Vec<psp::Entry> = records.iter().map(to_entry).collect();
+        let answer = psp::list_records(input, table, &mut entries);
+        for (record, entry) in records.iter_mut().zip(&entries) {
+            *record = to_record(entry);
+        }
+        listed(answer)
+    }
+
+    fn count(&self, input: &[u8], room: usize) -> Listed {
+        listed(psp::count(input, room))
+    }
+
+    fn read_plane(&self, input: &[u8], stored: &Stored, destination: &mut [u8]) -> PlaneAnswer {
+        let (start, length) = (stored.start as usize, stored.length as usize);
+        let plane = stored.plane as usize;
+        let answer = psp::read_plane(input, start, length, plane, stored.code, destination);
+        plane_answer(answer)
+    }
+
+    fn unpack(&self, stream: &[u8], plane: u64, destination: &mut [u8]) -> PlaneAnswer {
+        plane_answer(psp::unpack(stream, destination, plane as usize))
+    }
+
+    fn pack(&self, plane: &[u8], destination: &mut [u8]) -> (u32, u64) {
+        let packed = psp::pack(plane, destination);
+        (packed.number, packed.length as u64)
+    }
+
+    fn place(&self, sides: [u32; 2], canvas: &mut [u8], saved: Rectangle, plane: &[u8]) -> u32 {
+        psp::place(sides[0], sides[1], canvas, to_rect(saved), plane)
+    }
+
+    fn intersect(&self, one: Rectangle, other: Rectangle) -> Rectangle {
+        to_rectangle(psp::intersect(to_rect(one), to_rect(other)))
+    }
+
+    /// The part's own numbers, which a slice would not show, and the slice.
+    fn palette(&self, input: &[u8], room: usize, ramp: &[u8]) -> PaletteView {
+        // SAFETY: both slices are valid for their lengths, and nothing is written.
+        let part = unsafe {
+            ffi::psp_palette(input.as_ptr(), input.len(), room, ramp.as_ptr(), ramp.len())
+        };
+        let (lender, lent) = match part.which {
+            0 => (Lender::Input, input),
+            1 => (Lender::Ramp, ramp),
+            other => panic!("a palette is a part of slice {}", other),
+        };
+        let shown = psp::palette(input, room, ramp).bytes;
+        assert_eq!(shown, &lent[part.start..][..part.length], "the palette");
+        PaletteView {
+            number: part.number,
+            lender,
+            start: part.start as u64,
+            length: part.length as u64,
+        }
+    }
+
+    fn image_facts(&self, input: &[u8], room: usize) -> (u32, ImageChunk) {
+        let facts = psp::image_facts(input, room);
+        (facts.number, image_chunk(&facts.image))
+    }
+
+    fn layer_facts(&self, input: &[u8], room: usize, k: u32) -> (u32, LayerChunk) {
+        let facts = psp::layer_facts(input, room, k);
+        (facts.number, layer_chunk(&facts.layer))
+    }
+
+    fn layer_name(&self, input: &[u8], room: usize, k: u32) -> (u32, u64, u64) {
+        // SAFETY: the slice is valid for its length, and nothing is written.
+        let part = unsafe { ffi::psp_name(input.as_ptr(), input.len(), room, k) };
+        assert_eq!(part.which, 0, "a name is a part of the input");
+        let shown = psp::name(input, room, k).bytes;
+        assert_eq!(shown, &input[part.start..][..part.length], "the name");
+        (part.number, part.start as u64, part.length as u64)
+    }
+
+    fn dots(&self, resolution: Resolution) -> Option<f64> {
+        let dots = psp::dots_per_centimetre(resolution.value, resolution.metric);
+        match dots.known {
+            0 => {
+                assert_eq!(dots.value.to_bits(), 0, "dots where there are none");
+                None
+            }
+            1 => Some(dots.value),
+            other => panic!("known is {}", other),
+        }
+    }
+}

@@ -1,0 +1,94 @@
+//! Compares the library, linked through its C boundary, with the reference in
+//! one process: the generator's cases of all kinds, listings into records and
+//! counts besides, and cases too large for the generator.
+
+mod large;
+mod linked;
+mod long;
+
+use std::io;
+use std::process;
+
+use linked::Linked;
+use reference::answers::{answer, count, records};
+use reference::case::Case;
+use reference::cases;
+use reference::compare::Comparison;
+use reference::library::{Library, Reference};
+
+const USAGE: &str = "linked SEED COUNT, or linked long SEED COUNT";
+
+fn main() {
+    let words: Vec<String> = std::env::args().skip(1).collect();
+    let words: Vec<&str> = words.iter().map(String::as_str).collect();
+    let result = match words.as_slice() {
+        ["long", seed, count] => numbers(seed, count).map(|(seed, count)| long::run(seed, count)),
+        [seed, count] => numbers(seed, count).and_then(|(seed, count)| all(seed, count)),
+        _ => Err(usage()),
+    };
+    match result {
+        Ok(true) => {}
+        Ok(false) => process::exit(1),
+        Err(error) => {
+            eprintln!("linked: {}", error);
+            process::exit(2);
+        }
+    }
+}
+
+fn usage() -> io::Error {
+    io::Error::new(io::ErrorKind::InvalidInput, USAGE)
+}
+
+fn numbers(seed: &str, count: &str) -> io::Result<(u64, u64)> {
+    match (seed.parse(), count.parse()) {
+        (Ok(seed), Ok(count)) => Ok((seed, count)),
+        _ => Err(usage()),
+    }
+}
+
+/// True if nothing differed and every answer number was reached.
+fn all(seed: u64, count: u64) -> io::Result<bool> {
+    let mut report = io::stdout();
+    let mut comparison = Comparison::new(&mut report);
+    let mut result = Ok(());
+    large::each(|case| {
+        if result.is_ok() {
+            result = compare(&mut comparison, &case);
+        }
+    });
+    result?;
+    cases::generate(seed, count, |case| compare(&mut comparison, case))?;
+    comparison.finish(&[])
+}
+
+fn compare(comparison: &mut Comparison, case: &Case) -> io::Result<()> {
+    let got = answer(&Linked, case);
+    comparison.hold(case.kind(), &answer(&Reference, case), &got.line)?;
+    if let Case::Listing { room, input } = case {
+        listed_otherwise(comparison, *room as usize, input)?;
+    }
+    Ok(())
+}
+
+/// A listing into records beside the table, with the smaller room on either
+/// side and tables that end inside an entry; and one that stores nothing.
+fn listed_otherwise(comparison: &mut Comparison, room: usize, input: &[u8]) -> io::Result<()> {
+    let needed = Reference.count(input, room).2 as usize;
+    let room = room.min(needed + 3);
+    let rest = input.len() % 13;
+    for (numbers, slots) in [
+        (room * 13 + rest, room + 2),
+        (room * 13 + 26 + rest, room),
+        (room * 13 + rest, room / 2),
+    ] {
+        let got = records(&Linked, numbers, slots, input);
+        let expected = records(&Reference, numbers, slots, input);
+        comparison.hold(b'R', &expected, &got.line)?;
+    }
+    for room in [room, usize::MAX] {
+        let got = count(&Linked, room, input);
+        comparison.hold(b'T', &count(&Reference, room, input), &got.line)?;
+    }
+    Ok(())
+}

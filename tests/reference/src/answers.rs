@@ -1,0 +1,225 @@
+//! The answer line of a case: its kind, the answer's numbers, and a hash of
+//! every buffer that the call could write, what must stay untouched included.
+
+use crate::case::Case;
+use crate::library::{Library, Listed, Record};
+use crate::psp::chunks::{ImageChunk, LayerChunk, Resolution};
+use crate::psp::listing::ENTRY_NUMBERS;
+use crate::psp::planes::PlaneAnswer;
+use crate::psp::views::Lender;
+
+/// What buffers hold before a call.
+const BEFORE: u8 = 0xEE;
+const NUMBER_BEFORE: u32 = u32::from_le_bytes([BEFORE; 4]);
+
+/// Numbers of the table past the room: too few for one entry more.
+const TABLE_REST: usize = 5;
+
+/// A line without its line feed, and the answer number in it, if its kind
+/// has one.
+pub struct Answer {
+    pub line: String,
+    pub number: Option<u32>,
+}
+
+/// FNV-1a, 32 bits.
+pub fn fnv(bytes: &[u8]) -> u32 {
+    bytes.iter().fold(2_166_136_261, |hash: u32, &byte| {
+        (hash ^ u32::from(byte)).wrapping_mul(16_777_619)
+    })
+}
+
+fn hash(numbers: &[u32]) -> u32 {
+    let bytes = numbers.iter().flat_map(|number| number.to_le_bytes());
+    fnv(&bytes.collect::<Vec<u8>>())
+}
+
+/// A library's answer to a case.
+pub fn answer(library: &dyn Library, case: &Case) -> Answer {
+    match case {
+        Case::Listing { room, input } => listing(library, *room as usize, input),
+        Case::PaletteView { room, ramp, input } => {
+            palette(library, *room as usize, *ramp as usize, input)
+        }
+        Case::ImageFacts { room, input } => {
+            let (number, image) = library.image_facts(input, *room as usize);
+            numbered(number, image_line(number, &image))
+        }
+        Case::LayerFacts { room, k, input } => {
+            let (number, layer) = library.layer_facts(input, *room as usize, *k);
+            numbered(number, layer_line(number, &layer))
+        }
+        Case::LayerName { room, k, input } => {
+            let (number, start, length) = library.layer_name(input, *room as usize, *k);
+            numbered(number, format!("N {} {} {}", number, start, length))
+        }
+        _ => answer_without_file(library, case),
+    }
+}
+
+/// The kinds whose input is no whole file.
+fn answer_without_file(library: &dyn Library, case: &Case) -> Answer {
+    match case {
+        Case::Plane {
+            stored,
+            destination,
+            input,
+        } => {
+            let mut buffer = vec![BEFORE; *destination as usize];
+            let got = library.read_plane(input, stored, &mut buffer);
+            plane('P', got, &buffer)
+        }
+        Case::Packets {
+            plane: length,
+            destination,
+            stream,
+        } => {
+            let mut buffer = vec![BEFORE; *destination as usize];
+            let got = library.unpack(stream, *length, &mut buffer);
+            plane('U', got, &buffer)
+        }
+        Case::Pack { destination, plane } => {
+            let mut buffer = vec![BEFORE; *destination as usize];
+            let (number, length) = library.pack(plane, &mut buffer);
+            numbered(number, format!("K {} {} {}", number, length, fnv(&buffer)))
+        }
+        Case::Canvas {
+            width,
+            height,
+            rectangle,
+            canvas,
+            plane,
+        } => {
+            let mut pixels = canvas.clone();
+            let number = library.place([*width, *height], &mut pixels, *rectangle, plane);
+            numbered(number, format!("C {} {}", number, fnv(&pixels)))
+        }
+        _ => answer_of_values(library, case),
+    }
+}
+
+/// The kinds without a buffer; they refuse nothing.
+fn answer_of_values(library: &dyn Library, case: &Case) -> Answer {
+    let line = match case {
+        Case::Intersection { one, other } => {
+            let [left, top, right, bottom] = library.intersect(*one, *other).corners();
+            format!("I {} {} {} {}", left, top, right, bottom)
+        }
+        Case::Dots { bits, metric } => {
+            let value = f64::from_bits(*bits);
+            let metric = *metric;
+            match library.dots(Resolution { value, metric }) {
+                Some(dots) => format!("D 1 {}", dots.to_bits()),
+                None => "D 0 0".to_string(),
+            }
+        }
+        _ => String::new(),
+    };
+    Answer { line, number: None }
+}
+
+fn numbered(number: u32, line: String) -> Answer {
+    Answer {
+        line,
+        number: Some(number),
+    }
+}
+
+fn listed(kind: char, listed: Listed, hashes: &[u32]) -> Answer {
+    let (number, place, count) = listed;
+    let mut line = format!("{} {} {} {}", kind, number, place, count);
+    for hash in hashes {
+        line.push_str(&format!(" {}", hash));
+    }
+    numbered(number, line)
+}
+
+fn listing(library: &dyn Library, room: usize, input: &[u8]) -> Answer {
+    let mut table = vec![NUMBER_BEFORE; room * ENTRY_NUMBERS + TABLE_REST];
+    let got = library.list(input, &mut table);
+    listed('L', got, &[hash(&table)])
+}
+
+/// A listing in a table of so many numbers and in so many records. No case
+/// asks for one: the answers go by listings.
+pub fn records(library: &dyn Library, numbers: usize, room: usize, input: &[u8]) -> Answer {
+    let mut table = vec![NUMBER_BEFORE; numbers];
+    let mut records: Vec<Record> = vec![[NUMBER_BEFORE; ENTRY_NUMBERS]; room];
+    let got = library.list_records(input, &mut table, &mut records);
+    let records: Vec<u32> = records.into_iter().flatten().collect();
+    listed('R', got, &[hash(&table), hash(&records)])
+}
+
+/// A listing that stores nothing.
+pub fn count(library: &dyn Library, room: usize, input: &[u8]) -> Answer {
+    listed('T', library.count(input, room), &[])
+}
+
+fn palette(library: &dyn Library, room: usize, ramp: usize, input: &[u8]) -> Answer {
+    let view = library.palette(input, room, &vec![BEFORE; ramp]);
+    let which = match view.lender {
+        Lender::Input => 0,
+        Lender::Ramp => 1,
+    };
+    let line = format!("V {} {} {} {}", view.number, which, view.start, view.length);
+    numbered(view.number, line)
+}
+
+fn plane(kind: char, got: PlaneAnswer, buffer: &[u8]) -> Answer {
+    let hash = fnv(buffer);
+    let line = format!(
+        "{} {} {} {} {}",
+        kind, got.number, got.place, got.bytes, hash
+    );
+    numbered(got.number, line)
+}
+
+fn image_line(number: u32, image: &ImageChunk) -> String {
+    format!(
+        "F {} {} {} {} {} {} {} {} {} {} {} {} {}",
+        number,
+        image.width,
+        image.height,
+        image.resolution.value.to_bits(),
+        image.resolution.metric,
+        image.compression,
+        image.depth,
+        image.planes,
+        image.colours,
+        image.grey,
+        image.total_size,
+        image.active_layer,
+        image.layer_count,
+    )
+}
+
+fn layer_line(number: u32, layer: &LayerChunk) -> String {
+    let mut line = format!(
+        "Y {} {} {} {} {} {} {} {} {} {} {} {} {}",
+        number,
+        layer.kind,
+        layer.opacity,
+        layer.blending,
+        u8::from(layer.visible),
+        u8::from(layer.protected),
+        layer.group,
+        u8::from(layer.linked),
+        u8::from(layer.disabled),
+        u8::from(layer.inverted),
+        layer.blend_count,
+        layer.bitmaps,
+        layer.channels,
+    );
+    let rectangles = [
+        layer.image_border,
+        layer.image_saved,
+        layer.mask_border,
+        layer.mask_saved,
+    ];
+    for corner in rectangles.iter().flat_map(|rectangle| rectangle.corners()) {
+        line.push_str(&format!(" {}", corner));
+    }
+    let (name, ranges) = (fnv(&layer.name), fnv(&layer.blend_ranges));
+    line.push_str(&format!(" {} {}", name, ranges));
+    line
+}

@@ -1,0 +1,334 @@
+//! One test case and its binary form: a kind byte, the payload's length as
+//! four bytes, the payload. All numbers are little-endian; a byte string is
+//! its length as four bytes, then its bytes.
+
+use std::io::{self, Read, Write};
+
+use crate::psp::rectangle::Rectangle;
+
+pub const PAYLOAD_LIMIT: usize = 65_536;
+pub const DESTINATION_LIMIT: u32 = 20_000;
+pub const ROOM_LIMIT: u32 = 512;
+
+/// Where the plane reader finds a stored channel in its input, and what it is
+/// to make of it.
+#[derive(Clone, Copy, Debug, PartialEq)]
+pub struct Stored {
+    pub start: u64,
+    pub length: u64,
+    pub plane: u64,
+    pub code: u32,
+}
+
+#[derive(Clone, Debug, PartialEq)]
+pub enum Case {
+    Listing {
+        room: u32,
+        input: Vec<u8>,
+    },
+    Plane {
+        stored: Stored,
+        destination: u32,
+        input: Vec<u8>,
+    },
+    Packets {
+        plane: u64,
+        destination: u32,
+        stream: Vec<u8>,
+    },
+    Pack {
+        destination: u32,
+        plane: Vec<u8>,
+    },
+    Canvas {
+        width: u32,
+        height: u32,
+        rectangle: Rectangle,
+        canvas: Vec<u8>,
+        plane: Vec<u8>,
+    },
+    Intersection {
+        one: Rectangle,
+        other: Rectangle,
+    },
+    PaletteView {
+        room: u32,
+        ramp: u32,
+        input: Vec<u8>,
+    },
+    ImageFacts {
+        room: u32,
+        input: Vec<u8>,
+    },
+    LayerFacts {
+        room: u32,
+        k: u32,
+        input: Vec<u8>,
+    },
+    LayerName {
+        room: u32,
+        k: u32,
+        input: Vec<u8>,
+    },
+    Dots {
+        bits: u64,
+        metric: u8,
+    },
+}
+
+impl Case {
+    pub fn kind(&self) -> u8 {
+        match self {
+            Case::Listing { .. } => b'L',
+            Case::Plane { .. } => b'P',
+            Case::Packets { .. } => b'U',
+            Case::Pack { .. } => b'K',
+            Case::Canvas { .. } => b'C',
+            Case::Intersection { .. } => b'I',
+            Case::PaletteView { .. } => b'V',
+            Case::ImageFacts { .. } => b'F',
+            Case::LayerFacts { .. } => b'Y',
+            Case::LayerName { .. } => b'N',
+            Case::Dots { .. } => b'D',
+        }
+    }
+
+    pub fn payload(&self) -> Vec<u8> {
+        let mut to = Payload::default();
+        match self {
+            Case::Listing { room, input } | Case::ImageFacts { room, input } => {
+                to.u32(*room).string(input)
+            }
+            Case::PaletteView { room, ramp, input } => to.u32(*room).u32(*ramp).string(input),
+            Case::LayerFacts { room, k, input } | Case::LayerName { room, k, input } => {
+                to.u32(*room).u32(*k).string(input)
+            }
+            Case::Intersection { one, other } => to.rectangle(one).rectangle(other),
+            Case::Dots { bits, metric } => to.u64(*bits).u8(*metric),
+            _ => self.pixels(&mut to),
+        };
+        to.bytes
+    }
+
+    /// The payload of the kinds that read or write pixels.
+    fn pixels<'a>(&self, to: &'a mut Payload) -> &'a mut Payload {
+        match self {
+            Case::Plane {
+                stored,
+                destination,
+                input,
+            } => to.stored(stored).u32(*destination).string(input),
+            Case::Packets {
+                plane,
+                destination,
+                stream,
+            } => to.u64(*plane).u32(*destination).string(stream),
+            Case::Pack { destination, plane } => to.u32(*destination).string(plane),
+            Case::Canvas {
+                width,
+                height,
+                rectangle,
+                canvas,
+                plane,
+            } => {
+                to.u32(*width).u32(*height).rectangle(rectangle);
+                to.string(canvas).string(plane)
+            }
+            _ => to,
+        }
+    }
+
+    /// The case of a kind and a payload; none if they do not fit together.
+    pub fn decode(kind: u8, payload: &[u8]) -> Option<Case> {
+        let mut from = Taker { rest: payload };
+        let case = match kind {
+            b'L' | b'V' | b'F' | b'Y' | b'N' => Case::of_file(kind, &mut from)?,
+            _ => Case::of_parts(kind, &mut from)?,
+        };
+        if from.rest.is_empty() {
+            Some(case)
+        } else {
+            None
+        }
+    }
+
+    /// A case whose input is a whole file, which comes last.
+    fn of_file(kind: u8, from: &mut Taker) -> Option<Case> {
+        let room = from.u32()?;
+        let second = match kind {
+            b'L' | b'F' => 0,
+            _ => from.u32()?,
+        };
+        let input = from.string()?;
+        let (ramp, k) = (second, second);
+        Some(match kind {
+            b'L' => Case::Listing { room, input },
+            b'V' => Case::PaletteView { room, ramp, input },
+            b'F' => Case::ImageFacts { room, input },
+            b'Y' => Case::LayerFacts { room, k, input },
+            _ => Case::LayerName { room, k, input },
+        })
+    }
+
+    /// A case of another kind. Fields of a struct expression are evaluated in
+    /// the written order, which is the payload's.
+    fn of_parts(kind: u8, from: &mut Taker) -> Option<Case> {
+        Some(match kind {
+            b'P' => Case::Plane {
+                stored: from.stored()?,
+                destination: from.u32()?,
+                input: from.string()?,
+            },
+            b'U' => Case::Packets {
+                plane: from.u64()?,
+                destination: from.u32()?,
+                stream: from.string()?,
+            },
+            b'K' => Case::Pack {
+                destination: from.u32()?,
+                plane: from.string()?,
+            },
+            b'C' => Case::Canvas {
+                width: from.u32()?,
+                height: from.u32()?,
+                rectangle: from.rectangle()?,
+                canvas: from.string()?,
+                plane: from.string()?,
+            },
+            b'I' => Case::Intersection {
+                one: from.rectangle()?,
+                other: from.rectangle()?,
+            },
+            b'D' => Case::Dots {
+                bits: from.u64()?,
+                metric: from.array::<1>()?[0],
+            },
+            _ => return None,
+        })
+    }
+
+    pub fn write(&self, to: &mut dyn Write) -> io::Result<()> {
+        let payload = self.payload();
+        to.write_all(&[self.kind()])?;
+        to.write_all(&(payload.len() as u32).to_le_bytes())?;
+        to.write_all(&payload)
+    }
+
+    /// The next case, or none at the end. A broken form is an error.
+    pub fn read(from: &mut dyn Read) -> io::Result<Option<Case>> {
+        let broken = |text: &str| io::Error::new(io::ErrorKind::InvalidData, text.to_string());
+        let mut kind = [0];
+        if from.read(&mut kind)? == 0 {
+            return Ok(None);
+        }
+        let mut length = [0; 4];
+        from.read_exact(&mut length)?;
+        let length = u32::from_le_bytes(length) as usize;
+        if length > PAYLOAD_LIMIT {
+            return Err(broken("a payload over 65,536 bytes"));
+        }
+        let mut payload = vec![0; length];
+        from.read_exact(&mut payload)?;
+        match Case::decode(kind[0], &payload) {
+            Some(case) => Ok(Some(case)),
+            None => Err(broken("a payload that does not fit its kind")),
+        }
+    }
+}
+
+#[derive(Default)]
+struct Payload {
+    bytes: Vec<u8>,
+}
+
+impl Payload {
+    fn u8(&mut self, value: u8) -> &mut Payload {
+        self.bytes.push(value);
+        self
+    }
+
+    fn u32(&mut self, value: u32) -> &mut Payload {
+        self.bytes.extend_from_slice(&value.to_le_bytes());
+        self
+    }
+
+    fn u64(&mut self, value: u64) -> &mut Payload {
+        self.bytes.extend_from_slice(&value.to_le_bytes());
+        self
+    }
+
+    fn stored(&mut self, value: &Stored) -> &mut Payload {
+        self.u64(value.start).u64(value.length);
+        self.u64(value.plane).u32(value.code)
+    }
+
+    fn rectangle(&mut self, value: &Rectangle) -> &mut Payload {
+        for corner in value.corners().iter() {
+            self.bytes.extend_from_slice(&corner.to_le_bytes());
+        }
+        self
+    }
+
+    fn string(&mut self, value: &[u8]) -> &mut Payload {
+        self.u32(value.len() as u32);
+        self.bytes.extend_from_slice(value);
+        self
+    }
+}
+
+struct Taker<'a> {
+    rest: &'a [u8],
+}
+
+impl<'a> Taker<'a> {
+    fn take(&mut self, length: usize) -> Option<&'a [u8]> {
+        if length > self.rest.len() {
+            return None;
+        }
+        let (head, tail) = self.rest.split_at(length);
+        self.rest = tail;
+        Some(head)
+    }
+
+    fn array<const N: usize>(&mut self) -> Option<[u8; N]> {
+        let mut array = [0; N];
+        array.copy_from_slice(self.take(N)?);
+        Some(array)
+    }
+
+    fn u32(&mut self) -> Option<u32> {
+        self.array().map(u32::from_le_bytes)
+    }
+
+    fn u64(&mut self) -> Option<u64> {
+        self.array().map(u64::from_le_bytes)
+    }
+
+    fn rectangle(&mut self) -> Option<Rectangle> {
+        let mut corners = [0; 4];
+        for corner in corners.iter_mut() {
+            *corner = i32::from_le_bytes(self.array()?);
+        }
+        let [left, top, right, bottom] = corners;
+        Some(Rectangle {
+            left,
+            top,
+            right,
+            bottom,
+        })
+    }
+
+    fn stored(&mut self) -> Option<Stored> {
+        Some(Stored {
+            start: self.u64()?,
+            length: self.u64()?,
+            plane: self.u64()?,
+            code: self.u32()?,
+        })
+    }
+
+    fn string(&mut self) -> Option<Vec<u8>> {
+        let length = self.u32()? as usize;
+        self.take(length).map(|bytes| bytes.to_vec())
+    }
+}

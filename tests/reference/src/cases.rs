@@ -1,0 +1,246 @@
+//! The cases: a fixed set of systematic ones, taken in an order that the seed
+//! gives, and between them random ones, valid and damaged. A seed and a count
+//! give the same cases everywhere.
+
+mod canvases;
+mod channels;
+mod damage;
+mod faults;
+mod fields;
+mod packing;
+mod pictures;
+mod planes;
+mod products;
+mod rectangles;
+mod streams;
+mod sweeps;
+mod values;
+
+use std::collections::HashSet;
+use std::io;
+
+use crate::case::{Case, Stored, ROOM_LIMIT};
+use crate::psp::listing::{list, CHANNEL};
+use crate::random::Random;
+use crate::samples;
+use crate::write::Picture;
+
+/// Longest input of a case.
+pub const INPUT_LIMIT: usize = 60_000;
+
+/// One case in so many is systematic: 200,000 cases hold all of them.
+const SYSTEMATIC_EVERY: u64 = 2;
+
+/// All systematic cases, each once; no seed changes them.
+pub fn systematic() -> Vec<Case> {
+    let mut cases = Vec::new();
+    sweeps::all(&mut cases);
+    products::all(&mut cases);
+    channels::all(&mut cases);
+    streams::all(&mut cases);
+    planes::all(&mut cases);
+    packing::all(&mut cases);
+    canvases::all(&mut cases);
+    values::all(&mut cases);
+    // A value tried in a field may be the one that stood there already.
+    let mut seen = HashSet::new();
+    cases.retain(|case| seen.insert((case.kind(), case.payload())));
+    cases
+}
+
+/// Makes the cases one after another.
+pub fn generate(
+    seed: u64,
+    count: u64,
+    mut give: impl FnMut(&Case) -> io::Result<()>,
+) -> io::Result<()> {
+    let mut random = Random::new(seed);
+    let mut systematic = systematic();
+    random.shuffle(&mut systematic);
+    for index in 0..count {
+        if index % SYSTEMATIC_EVERY == 0 {
+            let turn = (index / SYSTEMATIC_EVERY) as usize % systematic.len();
+            give(&systematic[turn])?;
+        } else {
+            give(&any(&mut random))?;
+        }
+    }
+    Ok(())
+}
+
+fn any(random: &mut Random) -> Case {
+    match random.below(100) {
+        0..=29 => listing(random),
+        30..=37 => planes::plane(random),
+        38..=42 => plane_of_file(random),
+        43..=53 => streams::packets(random),
+        54..=61 => packing::pack(random),
+        62..=71 => canvases::canvas(random),
+        72..=75 => values::intersection(random),
+        76..=82 => palette_view(random),
+        turn @ 83..=96 => facts(random, turn),
+        _ => values::dots(random),
+    }
+}
+
+fn palette_view(random: &mut Random) -> Case {
+    let input = mostly_valid(random);
+    let ramp = random.pick(&[1_024, 1_024, 1_024, 0, 256, 1_020, 1_023, 1_025, 2_048]);
+    Case::PaletteView {
+        room: room(random, &input),
+        ramp,
+        input,
+    }
+}
+
+fn facts(random: &mut Random, turn: u64) -> Case {
+    let input = mostly_valid(random);
+    let room = room(random, &input);
+    if turn <= 87 {
+        return Case::ImageFacts { room, input };
+    }
+    let k = layer(random);
+    if turn <= 93 {
+        Case::LayerFacts { room, k, input }
+    } else {
+        Case::LayerName { room, k, input }
+    }
+}
+
+/// Every kind that lists an input, with facts and name of layer k.
+pub fn every_listing(room: u32, k: u32, input: &[u8]) -> [Case; 5] {
+    let input = || input.to_vec();
+    let ramp = 1_024;
+    [
+        Case::Listing {
+            room,
+            input: input(),
+        },
+        Case::PaletteView {
+            room,
+            ramp,
+            input: input(),
+        },
+        Case::ImageFacts {
+            room,
+            input: input(),
+        },
+        Case::LayerFacts {
+            room,
+            k,
+            input: input(),
+        },
+        Case::LayerName {
+            room,
+            k,
+            input: input(),
+        },
+    ]
+}
+
+/// A listing of a file, valid or (mostly) damaged.
+fn listing(random: &mut Random) -> Case {
+    let input = input(random);
+    Case::Listing {
+        room: room(random, &input),
+        input,
+    }
+}
+
+/// Inputs from one picture, most of them damaged, each in its own way, with
+/// rooms: a picture takes longer to make than to damage.
+pub fn family(random: &mut Random, size: usize) -> Vec<(usize, Vec<u8>)> {
+    let picture = picture(random);
+    let input = |_| {
+        let input = perhaps_damaged(random, &picture);
+        (room(random, &input) as usize, input)
+    };
+    (0..size).map(input).collect()
+}
+
+/// A valid picture that is not too long to be a case.
+fn picture(random: &mut Random) -> Picture {
+    for _ in 0..8 {
+        let picture = pictures::valid(random);
+        let length = picture.bytes().len();
+        // Long ones are kept now and then only.
+        if length <= 3_000 || (length <= INPUT_LIMIT && random.one_in(6)) {
+            return picture;
+        }
+    }
+    samples::grey521()
+}
+
+/// A file, valid or (mostly) damaged.
+fn input(random: &mut Random) -> Vec<u8> {
+    if random.one_in(200) {
+        // No file at all.
+        let length = random.index(200);
+        return random.bytes(length);
+    }
+    let picture = picture(random);
+    perhaps_damaged(random, &picture)
+}
+
+fn perhaps_damaged(random: &mut Random, picture: &Picture) -> Vec<u8> {
+    let mut bytes = if random.one_in(4) {
+        picture.bytes()
+    } else {
+        damage::damaged(random, picture)
+    };
+    bytes.truncate(INPUT_LIMIT);
+    bytes
+}
+
+fn mostly_valid(random: &mut Random) -> Vec<u8> {
+    if random.one_in(4) {
+        input(random)
+    } else {
+        picture(random).bytes()
+    }
+}
+
+/// Ample room, or room near what the input needs.
+fn room(random: &mut Random, input: &[u8]) -> u32 {
+    if random.one_in(2) {
+        return ROOM_LIMIT;
+    }
+    let entries = list(input, ROOM_LIMIT as usize).entries.len() as i64;
+    let fewer = random.between(0, entries);
+    let room = random.pick(&[
+        entries,
+        entries,
+        entries + 1,
+        entries + 2,
+        entries - 1,
+        fewer,
+    ]);
+    room.clamp(0, i64::from(ROOM_LIMIT)) as u32
+}
+
+fn layer(random: &mut Random) -> u32 {
+    random.pick(&[0, 0, 0, 1, 1, 2, 3, 10, 63, 64, 0x8000_0000, 0xFFFF_FFFF])
+}
+
+/// A channel of a valid file, read there.
+fn plane_of_file(random: &mut Random) -> Case {
+    let picture = picture(random);
+    let input = picture.bytes();
+    let channels: Vec<_> = list(&input, ROOM_LIMIT as usize)
+        .entries
+        .into_iter()
+        .filter(|entry| entry.id == u32::from(CHANNEL))
+        .collect();
+    match channels.get(random.index(channels.len())) {
+        Some(channel) => {
+            let stored = Stored {
+                start: u64::from(channel.content_start),
+                length: u64::from(channel.stored_length),
+                plane: u64::from(channel.plane_length),
+                code: u32::from(picture.image.compression),
+            };
+            planes::stored_plane(random, stored, input)
+        }
+        None => planes::plane(random),
+    }
+}

@@ -1,0 +1,140 @@
+//! The files: every depth, raw and in run lengths, as far as GIMP 2.10 reads
+//! them soundly. Where docs/FIELD.md names a limit of GIMP, the word limit
+//! stands here and in the files beside this one.
+
+use super::creator::{self, Field};
+use super::layers::{layer, names, Masks};
+use crate::random::Random;
+use crate::write::{Image, InBank, Picture};
+
+pub struct File {
+    pub name: String,
+    pub picture: Picture,
+    pub creator: Vec<Field>,
+}
+
+struct Subject {
+    name: &'static str,
+    depth: u16,
+    grey: bool,
+    layers: usize,
+    masks: Masks,
+}
+
+const fn colour(name: &'static str, layers: usize, masks: Masks) -> Subject {
+    Subject {
+        name,
+        depth: 24,
+        grey: false,
+        layers,
+        masks,
+    }
+}
+
+/// Limit: no mask below 24 bits.
+const fn grey(name: &'static str, layers: usize) -> Subject {
+    Subject {
+        name,
+        depth: 8,
+        grey: true,
+        layers,
+        masks: Masks::Without,
+    }
+}
+
+const fn palette(name: &'static str, depth: u16) -> Subject {
+    Subject {
+        name,
+        depth,
+        grey: false,
+        layers: 1,
+        masks: Masks::Without,
+    }
+}
+
+const SUBJECTS: [Subject; 13] = [
+    colour("layers-1", 1, Masks::Without),
+    colour("layers-2", 2, Masks::Without),
+    colour("layers-11", 11, Masks::Without),
+    colour("layers-64", 64, Masks::Without),
+    colour("transparency-1", 1, Masks::Transparency),
+    colour("transparency-11", 11, Masks::Transparency),
+    colour("user-mask-1", 1, Masks::TransparencyAndUser),
+    colour("user-mask-11", 11, Masks::TransparencyAndUser),
+    grey("grey-1", 1),
+    grey("grey-11", 11),
+    palette("palette-8", 8),
+    palette("palette-4", 4),
+    palette("palette-1", 1),
+];
+
+/// Metric and value.
+const RESOLUTIONS: [(u8, f64); 5] = [(0, 100.0), (1, 72.0), (1, 96.5), (2, 28.5), (2, 118.0)];
+
+const CREATOR: u16 = 1;
+const THUMBNAIL: u16 = 9;
+
+/// Ids of other main blocks that a reader has to pass over, whatever is in
+/// them. Limits: no block of an unknown id inside bank or layer, and not 11, a
+/// tube block, on which GIMP may loop for ever.
+const SKIPPED: [u16; 5] = [6, 7, 12, 1_000, 65_535];
+
+/// Every subject raw and in run lengths, from one source of numbers.
+pub fn all(random: &mut Random) -> Vec<File> {
+    let mut files = Vec::new();
+    for (compression, word) in [(0, "raw"), (1, "runs")] {
+        for subject in &SUBJECTS {
+            let creator = creator::fields(random);
+            files.push(File {
+                name: format!("{}-{}", subject.name, word),
+                picture: picture(subject, compression, &creator, random),
+                creator,
+            });
+        }
+    }
+    files
+}
+
+fn picture(subject: &Subject, compression: u16, creator: &[Field], random: &mut Random) -> Picture {
+    let image = image(subject, compression, random);
+    let paletted = subject.depth < 24 && !subject.grey;
+    let colours = if paletted {
+        random.between(2, 1 << subject.depth)
+    } else {
+        256
+    };
+    let layers = names(subject.layers, random)
+        .iter()
+        .map(|name| layer(name, subject.masks, &image, colours, random))
+        .map(InBank::Layer)
+        .collect();
+    let mut picture = Picture::new(image)
+        .skipped(THUMBNAIL, 24, random.bytes(30))
+        .bank(layers);
+    if paletted {
+        let entry = |_| [random.byte(), random.byte(), random.byte(), 0];
+        picture = picture.palette((0..colours).map(entry).collect());
+    }
+    if !creator.is_empty() {
+        picture = picture.skipped(CREATOR, 0, creator::block(creator));
+    }
+    for id in SKIPPED {
+        let length = random.index(40);
+        picture = picture.skipped(id, 0, random.bytes(length));
+    }
+    // The thumbnail may not follow the bank; the others have no order.
+    random.shuffle(&mut picture.main[1..]);
+    picture
+}
+
+fn image(subject: &Subject, compression: u16, random: &mut Random) -> Image {
+    let (metric, resolution) = random.pick(&RESOLUTIONS);
+    Image {
+        width: random.between(64, 80) as u32,
+        height: random.between(6, 12) as u32,
+        resolution: resolution.to_bits(),
+        metric,
+        compression,
+        ..Image::new(subject.depth, subject.grey)
+    }
+}

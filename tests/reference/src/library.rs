@@ -1,0 +1,118 @@
+//! The entry points that are compared, behind one trait: the reference's own,
+//! or those of the library that is held to it.
+
+use crate::case::Stored;
+use crate::psp::chunks::{ImageChunk, LayerChunk, Resolution};
+use crate::psp::listing::{self, ENTRY_NUMBERS};
+use crate::psp::planes::{self, PlaneAnswer};
+use crate::psp::rectangle::{self, Rectangle};
+use crate::psp::views::{self, PaletteView};
+use crate::psp::{canvas, listing::Listing};
+
+/// Number, place and entry count.
+pub type Listed = (u32, u64, u64);
+
+/// An entry's thirteen numbers.
+pub type Record = [u32; ENTRY_NUMBERS];
+
+pub trait Library {
+    fn list(&self, input: &[u8], table: &mut [u32]) -> Listed;
+    fn list_records(&self, input: &[u8], table: &mut [u32], records: &mut [Record]) -> Listed;
+    fn count(&self, input: &[u8], room: usize) -> Listed;
+    fn read_plane(&self, input: &[u8], stored: &Stored, destination: &mut [u8]) -> PlaneAnswer;
+    fn unpack(&self, stream: &[u8], plane: u64, destination: &mut [u8]) -> PlaneAnswer;
+    fn pack(&self, plane: &[u8], destination: &mut [u8]) -> (u32, u64);
+    fn place(&self, sides: [u32; 2], canvas: &mut [u8], saved: Rectangle, plane: &[u8]) -> u32;
+    fn intersect(&self, one: Rectangle, other: Rectangle) -> Rectangle;
+    fn palette(&self, input: &[u8], room: usize, ramp: &[u8]) -> PaletteView;
+    fn image_facts(&self, input: &[u8], room: usize) -> (u32, ImageChunk);
+    fn layer_facts(&self, input: &[u8], room: usize, k: u32) -> (u32, LayerChunk);
+    /// Number, start and length.
+    fn layer_name(&self, input: &[u8], room: usize, k: u32) -> (u32, u64, u64);
+    fn dots(&self, resolution: Resolution) -> Option<f64>;
+}
+
+/// The independent implementation.
+pub struct Reference;
+
+fn listed(listing: &Listing) -> Listed {
+    let count = listing.entries.len() as u64;
+    (listing.number, listing.place, count)
+}
+
+/// Number 0 and the value, or the refusal's number and zeros.
+fn numbered<T: Default>(result: Result<T, u32>) -> (u32, T) {
+    match result {
+        Ok(value) => (0, value),
+        Err(number) => (number, T::default()),
+    }
+}
+
+impl Library for Reference {
+    fn list(&self, input: &[u8], table: &mut [u32]) -> Listed {
+        let (number, place, count) = listing::list_into(input, table);
+        (number, place, u64::from(count))
+    }
+
+    fn list_records(&self, input: &[u8], table: &mut [u32], records: &mut [Record]) -> Listed {
+        let room = records.len().min(table.len() / ENTRY_NUMBERS);
+        let listing = listing::list(input, room);
+        let slots = table.chunks_exact_mut(ENTRY_NUMBERS).zip(records);
+        for ((slot, record), entry) in slots.zip(&listing.entries) {
+            *record = entry.numbers();
+            slot.copy_from_slice(record);
+        }
+        listed(&listing)
+    }
+
+    fn count(&self, input: &[u8], room: usize) -> Listed {
+        listed(&listing::list(input, room))
+    }
+
+    fn read_plane(&self, input: &[u8], stored: &Stored, destination: &mut [u8]) -> PlaneAnswer {
+        let Stored {
+            start,
+            length,
+            plane,
+            code,
+        } = *stored;
+        planes::read_plane(input, start, length, plane, code, destination)
+    }
+
+    fn unpack(&self, stream: &[u8], plane: u64, destination: &mut [u8]) -> PlaneAnswer {
+        planes::read_packets(stream, plane, destination)
+    }
+
+    fn pack(&self, plane: &[u8], destination: &mut [u8]) -> (u32, u64) {
+        planes::pack(plane, destination)
+    }
+
+    fn place(&self, sides: [u32; 2], canvas: &mut [u8], saved: Rectangle, plane: &[u8]) -> u32 {
+        canvas::place(sides[0], sides[1], canvas, saved, plane)
+    }
+
+    fn intersect(&self, one: Rectangle, other: Rectangle) -> Rectangle {
+        rectangle::intersection(one, other)
+    }
+
+    fn palette(&self, input: &[u8], room: usize, ramp: &[u8]) -> PaletteView {
+        views::palette_view(input, room, ramp.len() as u64)
+    }
+
+    fn image_facts(&self, input: &[u8], room: usize) -> (u32, ImageChunk) {
+        numbered(views::image_facts(input, room))
+    }
+
+    fn layer_facts(&self, input: &[u8], room: usize, k: u32) -> (u32, LayerChunk) {
+        numbered(views::layer_facts(input, room, u64::from(k)))
+    }
+
+    fn layer_name(&self, input: &[u8], room: usize, k: u32) -> (u32, u64, u64) {
+        let (number, (start, length)) = numbered(views::layer_name(input, room, u64::from(k)));
+        (number, start, length)
+    }
+
+    fn dots(&self, resolution: Resolution) -> Option<f64> {
+        resolution.dots_per_centimetre()
+    }
+}

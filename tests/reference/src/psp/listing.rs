@@ -1,0 +1,549 @@
+//! The listing: one walk over the blocks of an input, with the open bank and
+//! the open layer kept by hand, so that the stack does not grow and every
+//! byte is passed once.
+
+use super::chunks::{
+    BlockHeader, ChannelChunk, FileHeader, ImageChunk, LayerChunk, PaletteChunk, MARK, SIGNATURE,
+};
+use super::rectangle::row;
+use super::{number, part, INPUT_LIMIT};
+
+pub const IMAGE: u16 = 0;
+pub const PALETTE: u16 = 2;
+pub const BANK: u16 = 3;
+pub const LAYER: u16 = 4;
+pub const CHANNEL: u16 = 5;
+pub const ALPHA_CHANNEL: u16 = 8;
+pub const THUMBNAIL: u16 = 9;
+/// From here on ids have no meaning in format 3.0.
+pub const FIRST_UNKNOWN: u16 = 12;
+
+/// Numbers of an entry.
+pub const ENTRY_NUMBERS: usize = 13;
+
+#[derive(Clone, Copy, Debug, Default, PartialEq, Eq)]
+pub struct Entry {
+    pub id: u32,
+    pub skipped: u32,
+    pub level: u32,
+    pub header_place: u32,
+    pub bytes_owned: u32,
+    pub layer_number: u32,
+    pub bitmap: u32,
+    pub channel: u32,
+    pub content_start: u32,
+    pub stored_length: u32,
+    pub width: u32,
+    pub height: u32,
+    pub plane_length: u32,
+}
+
+impl Entry {
+    pub fn numbers(&self) -> [u32; ENTRY_NUMBERS] {
+        [
+            self.id,
+            self.skipped,
+            self.level,
+            self.header_place,
+            self.bytes_owned,
+            self.layer_number,
+            self.bitmap,
+            self.channel,
+            self.content_start,
+            self.stored_length,
+            self.width,
+            self.height,
+            self.plane_length,
+        ]
+    }
+}
+
+pub struct Listing {
+    pub number: u32,
+    pub place: u64,
+    pub entries: Vec<Entry>,
+}
+
+impl Listing {
+    pub fn accepted(&self) -> bool {
+        self.number == number::ACCEPTED
+    }
+}
+
+/// Lists the blocks of an input, with room for that many entries.
+pub fn list(input: &[u8], room: usize) -> Listing {
+    if input.len() as u64 > INPUT_LIMIT {
+        return Listing {
+            number: number::INPUT_OVER_LIMIT,
+            place: 0,
+            entries: Vec::new(),
+        };
+    }
+    let mut walk = Walk::new(input, room);
+    let refusal = walk.run();
+    match refusal {
+        Ok(()) => Listing {
+            number: number::ACCEPTED,
+            place: input.len() as u64,
+            entries: walk.entries,
+        },
+        Err(Refusal { number, place }) => Listing {
+            number,
+            place,
+            entries: walk.entries,
+        },
+    }
+}
+
+/// Lists into a table of numbers, thirteen an entry, room rounded down.
+/// Returns number, place and count; numbers past the entries stay as they are.
+pub fn list_into(input: &[u8], table: &mut [u32]) -> (u32, u64, u32) {
+    let listing = list(input, table.len() / ENTRY_NUMBERS);
+    for (slot, entry) in table.chunks_exact_mut(ENTRY_NUMBERS).zip(&listing.entries) {
+        slot.copy_from_slice(&entry.numbers());
+    }
+    (listing.number, listing.place, listing.entries.len() as u32)
+}
+
+struct Refusal {
+    number: u32,
+    place: u64,
+}
+
+fn refuse<T>(number: u32, place: u64) -> Result<T, Refusal> {
+    Err(Refusal { number, place })
+}
+
+/// What the place rules make of a block.
+#[derive(Clone, Copy, PartialEq, Eq)]
+enum Treatment {
+    Image,
+    Palette,
+    Bank,
+    Layer,
+    Channel,
+    Skip,
+}
+
+struct OpenBank {
+    end: u64,
+    layers: u16,
+}
+
+struct OpenLayer {
+    end: u64,
+    number: u16,
+    chunk: LayerChunk,
+    channels: u16,
+    colours: u16,
+    /// Bitmaps 0 to 2 by channels 0 to 3.
+    seen: [[bool; 4]; 3],
+}
+
+struct Walk<'a> {
+    input: &'a [u8],
+    room: usize,
+    entries: Vec<Entry>,
+    /// Start of the next unit, never past the input's end.
+    at: u64,
+    image: Option<ImageChunk>,
+    palette_passed: bool,
+    palette_listed: bool,
+    bank_passed: bool,
+    bank: Option<OpenBank>,
+    layer: Option<OpenLayer>,
+}
+
+impl<'a> Walk<'a> {
+    fn new(input: &'a [u8], room: usize) -> Walk<'a> {
+        Walk {
+            input,
+            room,
+            entries: Vec::new(),
+            at: 0,
+            image: None,
+            palette_passed: false,
+            palette_listed: false,
+            bank_passed: false,
+            bank: None,
+            layer: None,
+        }
+    }
+
+    fn run(&mut self) -> Result<(), Refusal> {
+        self.file_header()?;
+        loop {
+            match self.parent_end() {
+                // Totals past the parent's end are refused, so the walk
+                // cannot step over that end.
+                Some(end) => match end.saturating_sub(self.at) {
+                    0 => self.close_parent()?,
+                    // Known from the parent's header alone: judged before
+                    // the presence of these bytes.
+                    1..=13 => return refuse(number::LENGTH_DOES_NOT_FIT, self.at),
+                    _ => self.block()?,
+                },
+                None if self.at == self.input.len() as u64 => return self.end_of_input(),
+                None => self.block()?,
+            }
+        }
+    }
+
+    /// A unit, judged only if all of it is present.
+    fn unit(&self, start: u64, length: u64) -> Result<&'a [u8], Refusal> {
+        match part(self.input, start, length) {
+            Some(unit) => Ok(unit),
+            None => refuse(number::ENDS_TOO_SOON, start),
+        }
+    }
+
+    fn file_header(&mut self) -> Result<(), Refusal> {
+        let header = FileHeader::decode(self.unit(0, FileHeader::SIZE)?);
+        if header.signature != SIGNATURE {
+            return refuse(number::SIGNATURE_WRONG, 0);
+        }
+        if header.major != 3 || header.minor != 0 {
+            return refuse(number::VERSION_NOT_3_0, 32);
+        }
+        self.at = FileHeader::SIZE;
+        Ok(())
+    }
+
+    fn level(&self) -> u32 {
+        match (&self.bank, &self.layer) {
+            (_, Some(_)) => 2,
+            (Some(_), None) => 1,
+            (None, None) => 0,
+        }
+    }
+
+    fn parent_end(&self) -> Option<u64> {
+        match (&self.bank, &self.layer) {
+            (_, Some(layer)) => Some(layer.end),
+            (Some(bank), None) => Some(bank.end),
+            (None, None) => None,
+        }
+    }
+
+    /// The walk stands on the end of the open layer or bank.
+    fn close_parent(&mut self) -> Result<(), Refusal> {
+        let image = self.image.unwrap_or_default();
+        let complete = if let Some(layer) = self.layer.take() {
+            layer.channels == layer.chunk.channels && layer.colours == image.colour_channels()
+        } else if let Some(bank) = self.bank.take() {
+            bank.layers == image.layer_count
+        } else {
+            true
+        };
+        if complete {
+            Ok(())
+        } else {
+            refuse(number::PARTS_MISSING, self.at)
+        }
+    }
+
+    /// The input stops at a main boundary. A bank that was passed is complete
+    /// there: it was judged at its own end.
+    fn end_of_input(&self) -> Result<(), Refusal> {
+        let palette_due = match &self.image {
+            Some(image) => image.is_paletted() && !self.palette_listed,
+            None => true,
+        };
+        if self.bank_passed && !palette_due {
+            Ok(())
+        } else {
+            refuse(number::ENDS_TOO_SOON, self.at)
+        }
+    }
+
+    /// The place rules; none is "out of place".
+    fn treatment(&self, id: u16) -> Option<Treatment> {
+        let image = match &self.image {
+            Some(image) => image,
+            // The first block: nothing but the image, unknown ids included.
+            None if id == IMAGE => return Some(Treatment::Image),
+            None => return None,
+        };
+        if id >= FIRST_UNKNOWN {
+            return Some(Treatment::Skip);
+        }
+        match (self.level(), id) {
+            (2, CHANNEL) => Some(Treatment::Channel),
+            (2, _) => None,
+            (1, LAYER) => Some(Treatment::Layer),
+            (1, _) => None,
+            (_, IMAGE) | (_, LAYER) | (_, CHANNEL) | (_, ALPHA_CHANNEL) => None,
+            (_, PALETTE) if self.palette_passed => None,
+            (_, PALETTE) if image.depth == 24 => Some(Treatment::Skip),
+            (_, PALETTE) => Some(Treatment::Palette),
+            (_, BANK) if self.bank_passed => None,
+            (_, BANK) => Some(Treatment::Bank),
+            (_, THUMBNAIL) if self.bank_passed => None,
+            // Creator, selection, alpha bank, thumbnail, extended, tube.
+            _ => Some(Treatment::Skip),
+        }
+    }
+
+    /// One layer or channel more than announced.
+    fn is_surplus(&self, treatment: Treatment) -> bool {
+        match (treatment, &self.bank, &self.layer) {
+            (Treatment::Layer, Some(bank), _) => {
+                bank.layers >= self.image.unwrap_or_default().layer_count
+            }
+            (Treatment::Channel, _, Some(layer)) => layer.channels >= layer.chunk.channels,
+            _ => false,
+        }
+    }
+
+    /// A block's header, in the stated order, then the rest by its kind.
+    fn block(&mut self) -> Result<(), Refusal> {
+        let place = self.at;
+        let header = BlockHeader::decode(self.unit(place, BlockHeader::SIZE)?);
+        if header.mark != MARK {
+            return refuse(number::MARK_WRONG, place);
+        }
+        let treatment = match self.treatment(header.id) {
+            Some(treatment) => treatment,
+            None => return refuse(number::OUT_OF_PLACE, place),
+        };
+        if self.is_surplus(treatment) {
+            return refuse(number::NOT_EXPECTED, place);
+        }
+        let BlockHeader { initial, total, .. } = header;
+        let lengths_fit = match treatment {
+            Treatment::Image => initial == 38 && total == 38,
+            Treatment::Palette => initial == 4 && total >= 4,
+            Treatment::Bank => initial == 0,
+            Treatment::Layer => (initial == 375 || initial == 0) && total >= 375,
+            Treatment::Channel => initial == 12 && total >= 12,
+            Treatment::Skip => true,
+        };
+        let end = place + BlockHeader::SIZE + u64::from(total);
+        let inside_parent = match self.parent_end() {
+            Some(parent_end) => end <= parent_end,
+            None => true,
+        };
+        if !lengths_fit || !inside_parent {
+            return refuse(number::LENGTH_DOES_NOT_FIT, place);
+        }
+        match treatment {
+            Treatment::Image => self.image(place),
+            Treatment::Palette => self.palette(place, total),
+            Treatment::Bank => self.open_bank(place, end),
+            Treatment::Layer => self.open_layer(place, end),
+            Treatment::Channel => self.channel(place, total),
+            Treatment::Skip => self.skip(place, header),
+        }
+    }
+
+    /// Writes an entry whose last unit has passed, and steps over the bytes
+    /// it owns. Blocks inside it come after them.
+    fn write(&mut self, entry: Entry, place: u64, owned: u64) -> Result<(), Refusal> {
+        if self.entries.len() >= self.room {
+            return refuse(number::TABLE_FULL, place);
+        }
+        // All of it lies inside the input, so the numbers fit in 32 bits.
+        self.entries.push(Entry {
+            level: self.level(),
+            header_place: place as u32,
+            bytes_owned: owned as u32,
+            ..entry
+        });
+        self.at = place + owned;
+        Ok(())
+    }
+
+    fn image(&mut self, place: u64) -> Result<(), Refusal> {
+        let chunk_start = place + BlockHeader::SIZE;
+        let chunk = ImageChunk::decode(self.unit(chunk_start, ImageChunk::SIZE)?);
+        if !chunk.is_permitted() {
+            return refuse(number::VALUE_NOT_PERMITTED, chunk_start);
+        }
+        if chunk.compression == 2 {
+            return refuse(number::COMPRESSION_2, chunk_start);
+        }
+        let entry = Entry {
+            id: u32::from(IMAGE),
+            ..Entry::default()
+        };
+        self.write(entry, place, BlockHeader::SIZE + ImageChunk::SIZE)?;
+        self.image = Some(chunk);
+        Ok(())
+    }
+
+    fn palette(&mut self, place: u64, total: u32) -> Result<(), Refusal> {
+        let chunk_start = place + BlockHeader::SIZE;
+        let chunk = PaletteChunk::decode(self.unit(chunk_start, PaletteChunk::SIZE)?);
+        if !chunk.is_permitted(self.image.unwrap_or_default().depth) {
+            return refuse(number::VALUE_NOT_PERMITTED, chunk_start);
+        }
+        if u64::from(total) != PaletteChunk::SIZE + chunk.entries_length() {
+            return refuse(number::LENGTH_DOES_NOT_FIT, place);
+        }
+        let content_start = chunk_start + PaletteChunk::SIZE;
+        self.unit(content_start, chunk.entries_length())?;
+        let entry = Entry {
+            id: u32::from(PALETTE),
+            content_start: content_start as u32,
+            stored_length: chunk.entries_length() as u32,
+            ..Entry::default()
+        };
+        self.write(entry, place, BlockHeader::SIZE + u64::from(total))?;
+        self.palette_passed = true;
+        self.palette_listed = true;
+        Ok(())
+    }
+
+    /// The bank's only unit is its header.
+    fn open_bank(&mut self, place: u64, end: u64) -> Result<(), Refusal> {
+        let entry = Entry {
+            id: u32::from(BANK),
+            ..Entry::default()
+        };
+        self.write(entry, place, BlockHeader::SIZE)?;
+        self.bank_passed = true;
+        self.bank = Some(OpenBank { end, layers: 0 });
+        Ok(())
+    }
+
+    fn open_layer(&mut self, place: u64, end: u64) -> Result<(), Refusal> {
+        let chunk_start = place + BlockHeader::SIZE;
+        let chunk = LayerChunk::decode(self.unit(chunk_start, LayerChunk::SIZE)?);
+        if !chunk.is_permitted(self.image.unwrap_or_default().colour_channels()) {
+            return refuse(number::VALUE_NOT_PERMITTED, chunk_start);
+        }
+        let number = self.bank.as_ref().map_or(0, |bank| bank.layers);
+        let entry = Entry {
+            id: u32::from(LAYER),
+            layer_number: u32::from(number),
+            ..Entry::default()
+        };
+        self.write(entry, place, BlockHeader::SIZE + LayerChunk::SIZE)?;
+        if let Some(bank) = &mut self.bank {
+            bank.layers += 1;
+        }
+        self.layer = Some(OpenLayer {
+            end,
+            number,
+            chunk,
+            channels: 0,
+            colours: 0,
+            seen: [[false; 4]; 3],
+        });
+        Ok(())
+    }
+
+    fn channel(&mut self, place: u64, total: u32) -> Result<(), Refusal> {
+        let chunk_start = place + BlockHeader::SIZE;
+        let chunk = ChannelChunk::decode(self.unit(chunk_start, ChannelChunk::SIZE)?);
+        let stored = u64::from(chunk.stored);
+        if u64::from(total) != ChannelChunk::SIZE + stored {
+            return refuse(number::LENGTH_DOES_NOT_FIT, place);
+        }
+        if !chunk.codes_are_permitted() {
+            return refuse(number::VALUE_NOT_PERMITTED, chunk_start);
+        }
+        let image = self.image.unwrap_or_default();
+        let plane = match &self.layer {
+            Some(layer) if is_expected(&chunk, &image, layer) => plane(&chunk, &image, layer),
+            _ => return refuse(number::NOT_EXPECTED, place),
+        };
+        if u64::from(chunk.plane) != plane.length {
+            return refuse(number::VALUE_NOT_PERMITTED, chunk_start);
+        }
+        let content_start = chunk_start + ChannelChunk::SIZE;
+        self.unit(content_start, stored)?;
+        let entry = Entry {
+            id: u32::from(CHANNEL),
+            layer_number: u32::from(plane.layer),
+            bitmap: u32::from(chunk.bitmap),
+            channel: u32::from(chunk.channel),
+            content_start: content_start as u32,
+            stored_length: chunk.stored,
+            width: plane.width as u32,
+            height: plane.height as u32,
+            plane_length: chunk.plane,
+            ..Entry::default()
+        };
+        let owned = BlockHeader::SIZE + ChannelChunk::SIZE + stored;
+        self.write(entry, place, owned)?;
+        self.pass_channel(&chunk);
+        Ok(())
+    }
+
+    fn pass_channel(&mut self, chunk: &ChannelChunk) {
+        if let Some(layer) = &mut self.layer {
+            layer.channels += 1;
+            layer.colours += u16::from(chunk.bitmap == 0);
+            if let Some(seen) = seen_mark(chunk, &mut layer.seen) {
+                *seen = true;
+            }
+        }
+    }
+
+    fn skip(&mut self, place: u64, header: BlockHeader) -> Result<(), Refusal> {
+        let data_start = place + BlockHeader::SIZE;
+        let total = u64::from(header.total);
+        self.unit(data_start, total)?;
+        let entry = Entry {
+            id: u32::from(header.id),
+            skipped: 1,
+            content_start: data_start as u32,
+            stored_length: header.total,
+            ..Entry::default()
+        };
+        self.write(entry, place, BlockHeader::SIZE + total)?;
+        // Skipped at depth 24 only, and even there at most once.
+        if header.id == PALETTE {
+            self.palette_passed = true;
+        }
+        Ok(())
+    }
+}
+
+/// Whether a layer may have this channel and has not had it yet. The layer's
+/// bitmap count takes no part.
+fn is_expected(chunk: &ChannelChunk, image: &ImageChunk, layer: &OpenLayer) -> bool {
+    let right_kind = match (chunk.bitmap, chunk.channel) {
+        (0, 1) | (0, 2) | (0, 3) => image.depth == 24,
+        (0, 0) => image.depth != 24,
+        (1, 0) | (2, 0) => true,
+        _ => false,
+    };
+    let mut seen = layer.seen;
+    right_kind && seen_mark(chunk, &mut seen).map_or(false, |seen| !*seen)
+}
+
+fn seen_mark<'a>(chunk: &ChannelChunk, seen: &'a mut [[bool; 4]; 3]) -> Option<&'a mut bool> {
+    seen.get_mut(usize::from(chunk.bitmap))?
+        .get_mut(usize::from(chunk.channel))
+}
+
+/// What a layer says of a channel's plane.
+struct Plane {
+    layer: u16,
+    width: u64,
+    height: u64,
+    length: u64,
+}
+
+/// The plane of an expected channel. The layer's chunk has been judged: sides
+/// are 0 to 4,096.
+fn plane(chunk: &ChannelChunk, image: &ImageChunk, layer: &OpenLayer) -> Plane {
+    let saved = match chunk.bitmap {
+        2 => layer.chunk.mask_saved,
+        _ => layer.chunk.image_saved,
+    };
+    let bits = match chunk.bitmap {
+        0 => image.colour_bits(),
+        _ => 8,
+    };
+    let width = saved.width().unsigned_abs();
+    let height = saved.height().unsigned_abs();
+    Plane {
+        layer: layer.number,
+        width,
+        height,
+        length: row(width, bits) * height,
+    }
+}

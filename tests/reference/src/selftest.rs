@@ -1,0 +1,68 @@
+//! Checks of this program: document 01's worked values and sample, and a
+//! check for each point that its text leaves open or that is easily missed.
+
+mod generator;
+mod listing;
+mod planes;
+mod views;
+mod worked;
+
+use crate::psp::listing::list;
+use crate::psp::planes::{read_packets, PlaneAnswer};
+
+/// Runs all checks and prints those that fail; true if none does.
+pub fn report() -> bool {
+    let mut checks = Checks {
+        done: 0,
+        failed: Vec::new(),
+    };
+    worked::all(&mut checks);
+    listing::all(&mut checks);
+    planes::all(&mut checks);
+    views::all(&mut checks);
+    generator::all(&mut checks);
+    for name in &checks.failed {
+        println!("failed: {}", name);
+    }
+    println!("{} checks, {} failed", checks.done, checks.failed.len());
+    checks.failed.is_empty()
+}
+
+pub struct Checks {
+    done: usize,
+    failed: Vec<String>,
+}
+
+impl Checks {
+    fn that(&mut self, name: &str, holds: bool) {
+        self.done += 1;
+        if !holds {
+            self.failed.push(name.to_string());
+        }
+    }
+
+    fn equal<T: PartialEq + std::fmt::Debug>(&mut self, name: &str, got: T, expected: T) {
+        self.done += 1;
+        if got != expected {
+            self.failed
+                .push(format!("{}: got {:?}, expected {:?}", name, got, expected));
+        }
+    }
+
+    /// Number, place and entry count of a listing with ample room.
+    fn listing(&mut self, name: &str, input: &[u8], expected: (u32, u64, usize)) {
+        let listing = list(input, 512);
+        self.equal(
+            name,
+            (listing.number, listing.place, listing.entries.len()),
+            expected,
+        );
+    }
+}
+
+/// A stream's answer, and a destination two bytes longer than the plane.
+fn unpacked(stream: &[u8], plane: u64) -> (PlaneAnswer, Vec<u8>) {
+    let mut destination = vec![0xEE; plane as usize + 2];
+    let answer = read_packets(stream, plane, &mut destination);
+    (answer, destination)
+}

@@ -1,0 +1,66 @@
+//! Checks of the generator: it gives the same cases for a seed, keeps its own
+//! limits, and its binary form comes back.
+
+use super::Checks;
+use crate::answers::answer;
+use crate::case::{Case, DESTINATION_LIMIT, PAYLOAD_LIMIT, ROOM_LIMIT};
+use crate::cases;
+use crate::library::Reference;
+use crate::random::Random;
+
+pub fn all(checks: &mut Checks) {
+    let systematic = cases::systematic();
+    let few_enough = systematic.len() <= 100_000;
+    checks.that("200,000 cases hold all systematic ones", few_enough);
+    let family = || cases::family(&mut Random::new(7), 20);
+    checks.that("the same family again", family() == family());
+    let random = made();
+    checks.that("the same cases again", random == made());
+    for case in random.iter().chain(&systematic) {
+        one(checks, case);
+    }
+}
+
+fn made() -> Vec<Case> {
+    let mut all = Vec::new();
+    let _ = cases::generate(7, 3_000, |case| {
+        all.push(case.clone());
+        Ok(())
+    });
+    all
+}
+
+fn one(checks: &mut Checks, case: &Case) {
+    let payload = case.payload();
+    checks.that("a payload's length", payload.len() <= PAYLOAD_LIMIT);
+    let back = Case::decode(case.kind(), &payload);
+    checks.that("a payload comes back", back.as_ref() == Some(case));
+    let (room, input, buffer) = sizes(case);
+    checks.that("a room", room <= ROOM_LIMIT);
+    checks.that("an input's length", input <= cases::INPUT_LIMIT);
+    checks.that("a buffer's length", buffer <= DESTINATION_LIMIT);
+    let line = answer(&Reference, case).line;
+    checks.that("a plain line", line.is_ascii() && !line.contains('\n'));
+}
+
+/// Room, input and buffer that a case asks for.
+fn sizes(case: &Case) -> (u32, usize, u32) {
+    match case {
+        Case::Listing { room, input }
+        | Case::PaletteView { room, input, .. }
+        | Case::ImageFacts { room, input }
+        | Case::LayerFacts { room, input, .. }
+        | Case::LayerName { room, input, .. } => (*room, input.len(), 0),
+        Case::Plane {
+            input, destination, ..
+        } => (0, input.len(), *destination),
+        Case::Packets {
+            destination,
+            stream,
+            ..
+        } => (0, stream.len(), *destination),
+        Case::Pack { destination, plane } => (0, plane.len(), *destination),
+        Case::Canvas { canvas, .. } => (0, 0, canvas.len() as u32),
+        Case::Intersection { .. } | Case::Dots { .. } => (0, 0, 0),
+    }
+}
