@@ -1,0 +1,76 @@
+//! The two sides, behind functions of one shape.
+
+use crate::library;
+use crate::reference::psp as reference;
+
+#[derive(Clone, Copy, Debug)]
+pub enum Side {
+    Library,
+    Reference,
+}
+
+pub const SIDES: [Side; 2] = [Side::Library, Side::Reference];
+
+/// Numbers of an entry in a table.
+pub const ENTRY_NUMBERS: usize = reference::listing::ENTRY_NUMBERS;
+
+/// Number, place, and entries or bytes written.
+pub type Answer = (u32, usize, usize);
+
+/// A stored channel of a file.
+#[derive(Clone, Copy)]
+pub struct Stored {
+    pub start: usize,
+    pub length: usize,
+    pub plane: usize,
+    pub code: u32,
+}
+
+impl Side {
+    pub fn list(self, input: &[u8], table: &mut [u32]) -> Answer {
+        match self {
+            Side::Library => {
+                let listed = library::list(input, table);
+                (listed.number, listed.place, listed.count)
+            }
+            Side::Reference => {
+                let (number, place, count) = reference::listing::list_into(input, table);
+                (number, place as usize, count as usize)
+            }
+        }
+    }
+
+    pub fn read_plane(self, input: &[u8], stored: Stored, dest: &mut [u8]) -> Answer {
+        let Stored {
+            start,
+            length,
+            plane,
+            code,
+        } = stored;
+        match self {
+            Side::Library => {
+                let read = library::read_plane(input, start, length, plane, code, dest);
+                (read.number, read.place, read.bytes)
+            }
+            Side::Reference => {
+                let (start, length, plane) = (start as u64, length as u64, plane as u64);
+                let read = reference::planes::read_plane(input, start, length, plane, code, dest);
+                (read.number, read.place as usize, read.bytes as usize)
+            }
+        }
+    }
+
+    /// The packed length stands for the place too.
+    pub fn pack(self, plane: &[u8], dest: &mut [u8]) -> Answer {
+        match self {
+            Side::Library => {
+                let packed = library::pack(plane, dest);
+                (packed.number, packed.length, packed.length)
+            }
+            Side::Reference => {
+                let (number, length) = reference::planes::pack(plane, dest);
+                (number, length as usize, length as usize)
+            }
+        }
+    }
+}
