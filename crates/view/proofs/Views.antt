@@ -48,7 +48,7 @@ palette-lies s room ramp =
     (λ _. pick-ind P (eqb ramp 1024) _ _ (λ long. omega (arith, eqb-true ramp 1024 long)) (λ _. omega arith))))
     (λ _. omega arith)
 
--- all that is known of the part of a name: it is of the input
+-- a name is always of the input
 pub name-lies : (s : List ℕ) (room k : ℕ) → nameView s room k .start + nameView s room k .length ≤ length s
 unfolding nameView
 name-lies s room k =

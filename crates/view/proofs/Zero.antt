@@ -11,7 +11,7 @@ use lib.ListN.{length, take, drop, getD, drop-of-length-le}
 use lib.Seq.{drop-cons, take-take}
 use Rattle.laws.specs.Lists.{part}
 use Rattle.laws.proofs.Choice.{pick-yes, pick-no, pick-ind}
-use Rattle.laws.proofs.Part.{lent, part-length}
+use Rattle.laws.proofs.Part.{lent}
 use Rattle.chunk.specs.LayerInformation.{layerOf, layerAt}
 use Rattle.view.specs.Name.{beforeZero}
 
@@ -59,6 +59,3 @@ name-field s at = take-take 256 375 (drop at s) (omega arith)
 module _ (s : List ℕ) (at n : ℕ) (e : n ≡ beforeZero (take (at + 256 - at) (drop at s))) where
   pub name-length : n ≡ beforeZero (layerAt s at .name)
   name-length = e ∙ ap beforeZero (lent s at 256 ∙ sym (name-field s at))
-
-  pub name-most : at + 256 ≤ length s → n ≤ 256
-  name-most h = omega (arith, e, ap beforeZero (lent s at 256), zero-most (part s at 256), part-length s at 256 h)

@@ -1,11 +1,13 @@
 use mathlib.Core.Path.{_≡_, sym, ap, _∙_}
 use borrow.Author.Needs.{needs}
 use borrow.Author.Tests.{eq-eqb, ne-eqb}
+use lib.Dec.{eqb}
+use Rattle.laws.specs.Choice.{pick}
 use Rattle.laws.proofs.Choice.{pick-yes, pick-no}
 use Rattle.chunk.specs.declared.image_attributes.ImageChunk.{ImageChunk}
 use Rattle.view.specs.declared.found.Found.{Found}
 use Rattle.view.specs.Palette.{paletteView}
-use Rattle.view.specs.Shown.{ofInput, refusal}
+use Rattle.view.specs.Shown.{ofInput, ofRamp, refusal}
 use Rattle.view.proofs.Accepted.{accepted-has}
 use Rattle.view.proofs.palette_view.palette_part.Statement.{statement}
 use Rattle.view.proofs.palette_view.palette_part.Tie as tie
@@ -45,32 +47,25 @@ returns-3 c =
     ∙ sym (pick-yes _ _ _ (eq-eqb _ _ (sym number ∙ d .before .if1 .left)) ∙ pick-no _ _ _ (ne-eqb _ _ (λ z. e .before .before .if2 .left (depth ∙ z)))
     ∙ pick-yes _ _ _ (sym listed ∙ e .if3 .taken))
 
--- no palette is listed
-returns-4 : tie.Need-returns-4
+-- no palette is listed: what is left of the view
+unlisted :
+    (e : tie.Else3) → let a = e .before .before .before .before .before .before .before .before .before .args in
+    paletteView (a .input .now) (a .room) (a .ramp) ≡ pick (eqb (a .ramp) 1024) ofRamp (refusal 44)
 unfolding paletteView
-returns-4 c =
-    let e = c .before .before in
+unlisted e =
     let d = e .before .before .before .before in
     let found = d .before .before .before .find .ensures in
     let number = ap (λ (f : Found). f .number) found in
     let depth = ap (λ (x : ImageChunk). x .depth) (d .decode .ensures) in
     let listed = ap (λ (f : Found). f .sought .palette) found in
-    c .of-ramp .ensures
-    ∙ sym (pick-yes _ _ _ (eq-eqb _ _ (sym number ∙ d .before .if1 .left)) ∙ pick-no _ _ _ (ne-eqb _ _ (λ z. e .before .before .if2 .left (depth ∙ z)))
-    ∙ pick-no _ _ _ (sym listed ∙ e .if3 .left) ∙ pick-yes _ _ _ (eq-eqb _ _ (c .before .if4 .taken)))
+    pick-yes _ _ _ (eq-eqb _ _ (sym number ∙ d .before .if1 .left)) ∙ pick-no _ _ _ (ne-eqb _ _ (λ z. e .before .before .if2 .left (depth ∙ z)))
+    ∙ pick-no _ _ _ (sym listed ∙ e .if3 .left)
+
+returns-4 : tie.Need-returns-4
+returns-4 c = c .of-ramp .ensures ∙ sym (unlisted (c .before .before) ∙ pick-yes _ _ _ (eq-eqb _ _ (c .before .if4 .taken)))
 
 returns-5 : tie.Need-returns-5
-unfolding paletteView
-returns-5 c =
-    let e = c .before .before in
-    let d = e .before .before .before .before in
-    let found = d .before .before .before .find .ensures in
-    let number = ap (λ (f : Found). f .number) found in
-    let depth = ap (λ (x : ImageChunk). x .depth) (d .decode .ensures) in
-    let listed = ap (λ (f : Found). f .sought .palette) found in
-    c .refusal3 .ensures
-    ∙ sym (pick-yes _ _ _ (eq-eqb _ _ (sym number ∙ d .before .if1 .left)) ∙ pick-no _ _ _ (ne-eqb _ _ (λ z. e .before .before .if2 .left (depth ∙ z)))
-    ∙ pick-no _ _ _ (sym listed ∙ e .if3 .left) ∙ pick-no _ _ _ (ne-eqb _ _ (c .before .if4 .left)))
+returns-5 c = c .refusal3 .ensures ∙ sym (unlisted (c .before .before) ∙ pick-no _ _ _ (ne-eqb _ _ (c .before .if4 .left)))
 
 pub palette-part-spec : {M : Type 1} → statement M
 palette-part-spec =
