@@ -27,17 +27,17 @@ extern "C" {
 #define PSP_ACCEPTED 0
 
 /* Listing, and everything that lists first. */
-#define PSP_OVER_LIMIT 1       /* input over the limit */
+#define PSP_OVER_LIMIT 1       /* too long an input */
 #define PSP_ENDS_TOO_SOON 2    /* ends too soon */
-#define PSP_WRONG_SIGNATURE 3  /* signature wrong */
-#define PSP_WRONG_VERSION 4    /* version not 3.0 */
-#define PSP_WRONG_MARK 5       /* block mark is not 7E 42 4B 00 */
-#define PSP_WRONG_LENGTH 6     /* length does not fit */
-#define PSP_OUT_OF_PLACE 7     /* known block out of place */
-#define PSP_WRONG_FIELD 8      /* field value not permitted */
-#define PSP_NOT_EXPECTED 9     /* layer or channel not expected */
-#define PSP_MISSING 10         /* parent ended with layers or channels missing */
-#define PSP_NOT_READABLE 11    /* compression code 2 */
+#define PSP_WRONG_SIGNATURE 3  /* another signature */
+#define PSP_WRONG_VERSION 4    /* another version */
+#define PSP_WRONG_MARK 5       /* another mark than a block's */
+#define PSP_WRONG_LENGTH 6     /* a length that cannot be */
+#define PSP_OUT_OF_PLACE 7     /* a known id where it may not stand */
+#define PSP_WRONG_FIELD 8      /* a field outside its values */
+#define PSP_NOT_EXPECTED 9     /* one too many, or no such channel here */
+#define PSP_MISSING 10         /* a parent closes incomplete */
+#define PSP_NOT_READABLE 11    /* a compression that is not read */
 #define PSP_TABLE_FULL 12      /* table full */
 
 /* Reading a plane. */
@@ -46,23 +46,23 @@ extern "C" {
 #define PSP_PLANE_DATA_MISSING 22  /* packet data missing, or the plane not full at the stream's end */
 #define PSP_PLANE_TOO_MUCH 23      /* more than the plane has left */
 #define PSP_PLANE_UNKNOWN_CODE 24  /* code not 0 or 1 */
-#define PSP_PLANE_RAW_LENGTH 25    /* raw length differs from the plane length */
+#define PSP_PLANE_RAW_LENGTH 25    /* a raw channel of another length than the plane */
 #define PSP_PLANE_OVER_LIMIT 26    /* plane length over the limit */
-#define PSP_PLANE_OUTSIDE 27       /* stored part not inside the input */
+#define PSP_PLANE_OUTSIDE 27       /* a stored part outside the input */
 
 /* Packing a plane. */
 #define PSP_PACK_NO_ROOM 30     /* destination shorter than the packed form */
 #define PSP_PACK_OVER_LIMIT 31  /* plane over the limit */
 
 /* Placing a plane on a canvas. */
-#define PSP_CANVAS_WRONG 40  /* canvas side not 1 to 4,096, or canvas length not their product */
-#define PSP_RECT_WRONG 41    /* rectangle breaks a coordinate, order or side rule */
-#define PSP_PLANE_WRONG 42   /* plane length not row times height */
+#define PSP_CANVAS_WRONG 40  /* no such canvas: its sides, or its length */
+#define PSP_RECT_WRONG 41    /* no such rectangle */
+#define PSP_PLANE_WRONG 42   /* a plane that is not the rectangle's */
 
 /* Views. */
 #define PSP_NO_PALETTE 43  /* depth 24 */
-#define PSP_NO_RAMP 44     /* grey, no palette listed, ramp not 1,024 bytes */
-#define PSP_NO_LAYER 45    /* no layer k */
+#define PSP_NO_RAMP 44     /* a ramp of another length than 1,024 would have to stand in */
+#define PSP_NO_LAYER 45    /* k is past the last layer */
 
 /* ---- Limits ---- */
 
@@ -74,7 +74,7 @@ extern "C" {
 
 /* ---- Listing ---- */
 
-/* An entry of the table: a block of the file. A number without meaning for its kind is 0. */
+/* An entry of the table: a block of the file. What a kind does not fill is 0. */
 typedef struct psp_entry {
   uint32_t id;       /* 0 image, 2 palette, 3 bank, 4 layer, 5 channel; any id when skipped */
   uint32_t skipped;  /* 0 or 1 */
@@ -97,8 +97,8 @@ typedef struct psp_listed {
   size_t count;     /* entries listed, also when refused */
 } psp_listed;
 
-/* Lists an input into a table of 32-bit numbers, thirteen an entry, room rounded down: the first count entries stand in the table, also
- * when refused (0 to 12), and the rest of it is untouched. */
+/* Lists an input into a table of 32-bit numbers, thirteen an entry (0 to 12): count entries stand in front, refused or not, and nothing
+ * behind them changes. Numbers that make no whole entry are no room. */
 psp_listed psp_list(const uint8_t *input, size_t length, uint32_t *table, size_t numbers);
 
 /* Gives the answer (0 to 12) of a listing in a room of so many entries, and stores nothing: with room SIZE_MAX the count is what a table

@@ -33,12 +33,17 @@ pub fn layered(layers: u16) -> Vec<u8> {
     [file_header(), image(1, 0, 24, layers), bank].concat()
 }
 
+/// Blocks of an unknown id and no data.
+pub fn empty_blocks(count: usize) -> Vec<u8> {
+    block(12, 0, &[]).repeat(count)
+}
+
 /// A grey picture of one pixel, with blocks of an unknown id and no data, as many as fit the length.
 /// Gives their number too.
 pub fn with_empty_blocks(among: Among, length: usize) -> (Vec<u8>, usize) {
     let count = (length - grey(1, 0, &[0; 4]).len()) / HEADER;
     let empty = |here| match here == among {
-        true => block(12, 0, &[]).repeat(count),
+        true => empty_blocks(count),
         false => Vec::new(),
     };
     let pixel = channel(0, 0, plane_length(1), &[0; 4]);

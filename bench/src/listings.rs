@@ -13,6 +13,9 @@ const LAYERED_ENTRIES: usize = 2 + LAYERS * 6;
 /// One listing of so few entries is too short to be measured.
 const REPEATED: usize = 1_000;
 
+/// Bytes of a file of empty blocks whose instructions are counted.
+const COUNTED: usize = 1 << 20;
+
 pub const MEBIBYTES: [usize; 3] = [16, 32, 64];
 
 pub const PLACES: [(Among, &str); 4] = [
@@ -31,8 +34,8 @@ struct Listed {
 pub fn report(clock: &Clock) {
     layers(clock);
     println!(
-        "| Empty blocks | MiB | Blocks | Library, {0} | Reference, {0} | Library / reference \
-         | Library, {1} a block | growth | Reference, {1} a block | growth |",
+        "| Empty blocks | MiB | Blocks | Library, {0} | Peer, {0} | Library / peer \
+         | Library, {1} a block | growth | Peer, {1} a block | growth |",
         clock.millions(),
         clock.ones()
     );
@@ -44,7 +47,7 @@ pub fn report(clock: &Clock) {
 
 fn layers(clock: &Clock) {
     println!(
-        "| Listing | Entries | Library, {0} an entry | Reference, {0} an entry | Library / reference |",
+        "| Listing | Entries | Library, {0} an entry | Peer, {0} an entry | Library / peer |",
         clock.ones()
     );
     println!("|---|--:|--:|--:|--:|");
@@ -57,7 +60,7 @@ fn layers(clock: &Clock) {
     println!(
         "| {LAYERS} layers of five channels | {LAYERED_ENTRIES} | {:.1} | {:.1} | {:.2} |\n",
         entry.library,
-        entry.reference,
+        entry.peer,
         entry.ratio()
     );
 }
@@ -78,13 +81,35 @@ fn growth(clock: &Clock, among: Among, name: &str) {
             MEBIBYTES[at],
             listed[at].entries - GREY_ENTRIES,
             costs.library / 1e6,
-            costs.reference / 1e6,
+            costs.peer / 1e6,
             costs.ratio(),
             block(at).library,
             block(at).library / block(0).library,
-            block(at).reference,
-            block(at).reference / block(0).reference
+            block(at).peer,
+            block(at).peer / block(0).peer
         );
+    }
+}
+
+/// One side lists the file of many layers, or one of empty blocks, so many times.
+pub fn repeat(side: &str, file: &str, times: &str) {
+    let side = match side {
+        "library" => Side::Library,
+        "peer" => Side::Peer,
+        _ => panic!("SIDE is library or peer"),
+    };
+    let (file, entries) = match file {
+        "layers" => (files::layered(LAYERS as u16), LAYERED_ENTRIES),
+        "blocks" => {
+            let (file, blocks) = files::with_empty_blocks(Among::MainAfterBank, COUNTED);
+            (file, GREY_ENTRIES + blocks)
+        }
+        _ => panic!("FILE is layers or blocks"),
+    };
+    let mut table = vec![0; entries * ENTRY_NUMBERS];
+    for _ in 0..times.parse().expect("TIMES is a number") {
+        let answer = side.list(&file, &mut table);
+        assert_eq!(answer, (0, file.len(), entries));
     }
 }
 
@@ -113,7 +138,7 @@ fn check(listed: &[Listed]) {
         let used = entries * ENTRY_NUMBERS;
         let answer = (0, file.len(), *entries);
         assert_eq!(Side::Library.list(file, &mut ours[..used]), answer);
-        assert_eq!(Side::Reference.list(file, &mut theirs[..used]), answer);
+        assert_eq!(Side::Peer.list(file, &mut theirs[..used]), answer);
         assert!(ours[..used] == theirs[..used], "the tables differ");
     }
 }

@@ -1,9 +1,11 @@
-//! Figures of the proved library beside the independent implementation, in one process.
+//! Figures of the proved library beside its peers, in one process.
 //!
-//! `figures` prints the planes and the listings, `figures memory` the stack and the memory of the
-//! longest listings. Every answer is checked; a wrong one stops the program.
+//! `figures` prints planes, listings and views, `figures memory` the stack and the memory of the
+//! longest listings. `figures list SIDE FILE TIMES` lists and prints nothing, so that a tool can count
+//! its instructions. Every answer is checked; a wrong one stops the program.
 
 mod clock;
+mod copying;
 mod files;
 mod listings;
 mod measure;
@@ -11,6 +13,10 @@ mod memory;
 mod pictures;
 mod planes;
 mod sides;
+
+// The library's boundary on Arm is wrapped for listings and planes only.
+#[cfg(target_arch = "x86_64")]
+mod views;
 
 #[cfg(target_arch = "aarch64")]
 mod arm;
@@ -28,13 +34,18 @@ mod reference {
 use clock::Clock;
 
 fn main() {
-    match std::env::args().nth(1).as_deref() {
-        None => {
+    let words: Vec<String> = std::env::args().skip(1).collect();
+    let words: Vec<&str> = words.iter().map(String::as_str).collect();
+    match words[..] {
+        [] => {
             let clock = Clock::open();
             planes::report(&clock);
             listings::report(&clock);
+            #[cfg(target_arch = "x86_64")]
+            views::report(&clock);
         }
-        Some("memory") => memory::report(),
-        Some(_) => panic!("usage: figures [memory]"),
+        ["memory"] => memory::report(),
+        ["list", side, file, times] => listings::repeat(side, file, times),
+        _ => panic!("usage: figures [memory | list SIDE FILE TIMES]"),
     }
 }

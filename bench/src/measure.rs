@@ -6,19 +6,19 @@ use crate::sides::{Side, SIDES};
 /// What the same work costs each side.
 pub struct Costs {
     pub library: f64,
-    pub reference: f64,
+    pub peer: f64,
 }
 
 impl Costs {
     pub fn ratio(&self) -> f64 {
-        self.library / self.reference
+        self.library / self.peer
     }
 
     /// The costs of one of so many equal parts.
     pub fn each(&self, parts: usize) -> Costs {
         Costs {
             library: self.library / parts as f64,
-            reference: self.reference / parts as f64,
+            peer: self.peer / parts as f64,
         }
     }
 }
@@ -48,9 +48,9 @@ pub fn interleaved(
         all.reverse();
     }
     seen.into_iter()
-        .map(|[library, reference]| Costs {
+        .map(|[library, peer]| Costs {
             library: median(library),
-            reference: median(reference),
+            peer: median(peer),
         })
         .collect()
 }

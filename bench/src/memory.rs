@@ -7,8 +7,8 @@ use std::fs;
 
 pub fn report() {
     println!(
-        "| Empty blocks | MiB | Entries | Stack touched, KiB: library | then reference \
-         | Memory taken, KiB: library | reference |"
+        "| Empty blocks | MiB | Entries | Stack touched, KiB: library | then peer \
+         | Memory taken, KiB: library | peer |"
     );
     println!("|---|--:|--:|--:|--:|--:|--:|");
     for (among, name) in PLACES {
@@ -29,10 +29,10 @@ fn row(among: Among, name: &str, mebibytes: usize) {
         (stack(), peak() - before)
     };
     let library = taken(Side::Library);
-    let reference = taken(Side::Reference);
+    let peer = taken(Side::Peer);
     println!(
         "| {name} | {mebibytes} | {entries} | {} | {} | {} | {} |",
-        library.0, reference.0, library.1, reference.1
+        library.0, peer.0, library.1, peer.1
     );
 }
 

@@ -1,6 +1,7 @@
 //! Reading a channel of a file, and packing a plane.
 
 use crate::clock::Clock;
+use crate::copying;
 use crate::files::{self, GREY_ENTRIES};
 use crate::measure::{counted, interleaved, Costs};
 use crate::pictures::{self, Picture, SIDE};
@@ -11,8 +12,9 @@ const RAW: u16 = 0;
 const RUN_LENGTHS: u16 = 1;
 
 pub fn report(clock: &Clock) {
+    copying::check();
     println!(
-        "| Plane | Work | Bytes stored | Library, {0} | Reference, {0} | Library / reference |",
+        "| Plane | Work | Bytes stored | Library, {0} | Peer, {0} | Library / peer |",
         clock.millions()
     );
     println!("|---|---|--:|--:|--:|--:|");
@@ -32,7 +34,7 @@ fn row(name: &str, work: &str, stored: &[u8], costs: &Costs) {
         "| {name} | {work} | {} | {:.2} | {:.2} | {:.2} |",
         stored.len(),
         costs.library / 1e6,
-        costs.reference / 1e6,
+        costs.peer / 1e6,
         costs.ratio()
     );
 }

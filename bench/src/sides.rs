@@ -1,15 +1,16 @@
-//! The two sides, behind functions of one shape.
+//! The library and its peers, behind functions of one shape.
 
+use crate::copying;
 use crate::library;
 use crate::reference::psp as reference;
 
 #[derive(Clone, Copy, Debug)]
 pub enum Side {
     Library,
-    Reference,
+    Peer,
 }
 
-pub const SIDES: [Side; 2] = [Side::Library, Side::Reference];
+pub const SIDES: [Side; 2] = [Side::Library, Side::Peer];
 
 /// Numbers of an entry in a table.
 pub const ENTRY_NUMBERS: usize = reference::listing::ENTRY_NUMBERS;
@@ -27,47 +28,45 @@ pub struct Stored {
 }
 
 impl Side {
+    /// The peer is the independent implementation.
     pub fn list(self, input: &[u8], table: &mut [u32]) -> Answer {
         match self {
             Side::Library => {
                 let listed = library::list(input, table);
                 (listed.number, listed.place, listed.count)
             }
-            Side::Reference => {
+            Side::Peer => {
                 let (number, place, count) = reference::listing::list_into(input, table);
                 (number, place as usize, count as usize)
             }
         }
     }
 
+    /// The peer is the reader that copies literals whole.
     pub fn read_plane(self, input: &[u8], stored: Stored, dest: &mut [u8]) -> Answer {
-        let Stored {
-            start,
-            length,
-            plane,
-            code,
-        } = stored;
         match self {
             Side::Library => {
+                let Stored {
+                    start,
+                    length,
+                    plane,
+                    code,
+                } = stored;
                 let read = library::read_plane(input, start, length, plane, code, dest);
                 (read.number, read.place, read.bytes)
             }
-            Side::Reference => {
-                let (start, length, plane) = (start as u64, length as u64, plane as u64);
-                let read = reference::planes::read_plane(input, start, length, plane, code, dest);
-                (read.number, read.place as usize, read.bytes as usize)
-            }
+            Side::Peer => copying::read_plane(input, stored, dest),
         }
     }
 
-    /// The packed length stands for the place too.
+    /// The peer is the independent implementation. The packed length stands for the place too.
     pub fn pack(self, plane: &[u8], dest: &mut [u8]) -> Answer {
         match self {
             Side::Library => {
                 let packed = library::pack(plane, dest);
                 (packed.number, packed.length, packed.length)
             }
-            Side::Reference => {
+            Side::Peer => {
                 let (number, length) = reference::planes::pack(plane, dest);
                 (number, length as usize, length as usize)
             }

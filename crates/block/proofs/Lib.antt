@@ -1,7 +1,5 @@
--- Laws that several judges cite.
-pub mod Judging
+-- What one look owes the walk, and the analysis of a step behind it.
 pub mod Passed
-pub mod Placed
 pub mod Stepped
 pub mod Owed
 pub mod OneOutcome

@@ -4,19 +4,22 @@ use mathlib.Core.List.{List}
 use Prim.Native.Nat.{ℕ}
 use Rattle.laws.proofs.OneOutcome.{one, answer-one}
 use Rattle.walk.specs.Walk as walk
-use Rattle.walk.specs.Walk.{Stop, Leaf, Nest}
-use Rattle.block.specs.declared.state.State.{State}
-use Rattle.block.specs.declared.Step.{Step}
-use Rattle.block.specs.declared.Step.the-variants as code
-use Rattle.block.specs.Step.{told, stepAt}
+use Rattle.walk.specs.Walk.{End, Stop, Leaf, Nest}
+use Rattle.memory.specs.declared.state.State.{State}
+use Rattle.kinds.specs.declared.Step.{Step}
+use Rattle.kinds.specs.declared.Step.the-variants as code
+use Rattle.kinds.specs.Blocks.{told}
+use Rattle.block.specs.Step.{stepAt}
 
 back : walk.Step State → Step
+back End = code.End
 back (Stop n p) = code.Stop n p
 back (Leaf e next st) = code.Leaf e next st
 back (Nest e inside st after) = code.Nest e inside st after
 
 told-back : (k : Step) → back (told k) ≡ k
 unfolding back
+told-back code.End = refl
 told-back (code.Stop n p) = refl
 told-back (code.Leaf e next st) = refl
 told-back (code.Nest e inside st after) = refl

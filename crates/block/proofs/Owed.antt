@@ -1,56 +1,59 @@
 -- The rules pay what they owe the walk: a step moves on and its entry owns what it passes, and more input keeps it.
-use mathlib.Core.Path.{_≡_, refl, ap, _∙_}
-use mathlib.Core.Logic.{inl, inr}
+use mathlib.Core.Path.{_≡_, refl, ap}
 use mathlib.Core.List.{List, _++_}
-use Prim.Native.Nat.{ℕ, suc, _+_, _*_, _≤_, _<_}
+use Prim.Native.Nat.{ℕ, _+_, _*_, _≤_, _<_}
 use native.Mathlib.Omega.{arith}
-use borrow.Author.Tests.{eqb-true, eqb-false, ne-eqb}
+use borrow.Author.Tests.{eqb-true, ne-eqb}
 use lib.Dec.{eqb}
 use lib.ListN.{length, length-append}
 use Rattle.laws.proofs.Choice.{pick-no, pick-ind, pick-ind₂, pick-left}
 use Rattle.entry.specs.declared.Entry.{Entry}
-use Rattle.walk.specs.Walk.{Step, Stop}
+use Rattle.walk.specs.Walk.{Step}
 use Rattle.walk.specs.Owed.{Owns, Opens, Moves, ends, stops, leaf, nest, MovesOn, soon, last, Rules, Beyond, last-end, refused, leaf-past, nest-past, Waits, stays, waits, WaitsOn, Prompt}
 use Rattle.walk.proofs.Unit.{unit-ind, unit-waits, unit-waits-to}
 use Rattle.walk.proofs.Prefix.{waits-keeps}
-use Rattle.chunk.specs.declared.block_header.BlockHeader.{BlockHeader}
-use Rattle.chunk.specs.BlockHeader.{blockHeaderOf}
-use Rattle.block.specs.declared.state.State.{State}
-use Rattle.block.specs.Blocks.{entryOf, imageJudged, paletteJudged, paletteCounted, layerJudged, channelJudged, channelSized, channelCoded, imageBlock, paletteBlock, bankBlock, layerBlock, channelBlock, skipBlock}
-use Rattle.block.specs.Step.{main, levelOf, kindOf, placedOf, blockAt, stepAt}
-use Rattle.block.proofs.Judging.{permitted-ind, permitted-ind₂}
-use Rattle.block.proofs.Stepped.{Known, LeafOf, an-image, a-palette, a-channel, a-skip, NestOf, a-bank, a-layer, Stepped, accepted, ended, stopped, leafed, nested, stepped}
+use Rattle.headers.specs.declared.block_header.BlockHeader.{BlockHeader}
+use Rattle.headers.specs.BlockHeader.{blockHeaderSize}
+use Rattle.attributes.specs.ImageAttributes.{imageSize}
+use Rattle.chunk.specs.Heads.{imageHead, paletteHead, layerHead, channelHead}
+use Rattle.chunk.specs.ColorPalette.{paletteSize}
+use Rattle.chunk.specs.LayerInformation.{layerSize}
+use Rattle.chunk.specs.ChannelInformation.{channelSize}
+use Rattle.memory.specs.declared.places.Placing.{Placing}
+use Rattle.memory.specs.declared.places.Placing.the-variants.{Refuse, Enter, Skip}
+use Rattle.memory.specs.declared.state.State.{State}
+use Rattle.memory.specs.Parent.{main, levelOf}
+use Rattle.kinds.specs.Blocks.{imageJudged, paletteJudged, paletteCounted, imageBlock, paletteBlock, bankBlock, skipBlock}
+use Rattle.layers.specs.Layers.{layerJudged, channelJudged, channelSized, channelCoded, layerBlock, channelBlock}
+use Rattle.kinds.proofs.Judging.{permitted-ind, permitted-ind₂}
+use Rattle.block.specs.Step.{kindOf, placedOf, blockAt, stepAt}
+use Rattle.block.proofs.Stepped.{LeafOf, an-image, a-palette, a-channel, a-skip, NestOf, a-bank, a-layer, Stepped, accepted, ended, stopped, leafed, nested, stepped}
 
 -- ### Each step moves on
 
--- 12 is no refusal of the rules
-never-12 : (n : ℕ) → Known n → n ≡ 12 → ⊥
-never-12 n (inl e) z = omega arith
-never-12 n (inr h) z = omega arith
-
 module _ (s : List ℕ) (st : State) (at end levels : ℕ) where
-  own : {e : Entry} {next : ℕ} (owned : ℕ) → e .place ≡ at → e .owned ≡ owned → next ≡ at + owned → 0 < owned → next ≤ length s → next ≤ end
+  own : {e : Entry} {next : ℕ} (owned : ℕ) → e .block .place ≡ at → e .block .owned ≡ owned → next ≡ at + owned → 0 < owned → next ≤ length s → next ≤ end
       → Owns (length s) at end e next
   own owned p o n some present within = record { place = p; owned = omega arith; on = omega arith; present = present; within = within }
 
   leaf-owns : {e : Entry} {next : ℕ} {q : State} → LeafOf s st at end levels e next q → Owns (length s) at end e next
   leaf-owns (an-image i) =
-      own 52 (ap (λ x. x .place) (i .entry)) (ap (λ x. x .owned) (i .entry)) (i .goes-on) (omega arith)
+      own imageHead (ap (λ x. x .block .place) (i .entry)) (ap (λ x. x .block .owned) (i .entry)) (i .goes-on) (omega arith)
       (omega (arith, i .present, i .goes-on)) (omega (arith, i .within, i .goes-on))
   leaf-owns (a-palette i) =
-      own (18 + 4 * i .count) (ap (λ x. x .place) (i .entry)) (ap (λ x. x .owned) (i .entry)) (omega (arith, i .goes-on)) (omega arith)
+      own (paletteHead + 4 * i .count) (ap (λ x. x .block .place) (i .entry)) (ap (λ x. x .block .owned) (i .entry)) (omega (arith, i .goes-on)) (omega arith)
       (omega (arith, i .present, i .goes-on)) (omega (arith, i .within, i .goes-on))
   leaf-owns (a-channel i) =
-      own (26 + i .chunk .stored) (ap (λ x. x .place) (i .entry)) (ap (λ x. x .owned) (i .entry)) (omega (arith, i .goes-on)) (omega arith)
+      own (channelHead + i .chunk .stored) (ap (λ x. x .block .place) (i .entry)) (ap (λ x. x .block .owned) (i .entry)) (omega (arith, i .goes-on)) (omega arith)
       (omega (arith, i .present, i .goes-on)) (omega (arith, i .within, i .goes-on))
   leaf-owns (a-skip i) =
-      own (14 + i .total) (ap (λ x. x .place) (i .entry)) (ap (λ x. x .owned) (i .entry)) (omega (arith, i .goes-on)) (omega arith)
+      own (blockHeaderSize + i .total) (ap (λ x. x .block .place) (i .entry)) (ap (λ x. x .block .owned) (i .entry)) (omega (arith, i .goes-on)) (omega arith)
       (omega (arith, i .present, i .goes-on)) (omega (arith, i .within, i .goes-on))
 
   nest-opens : {e : Entry} {inside : ℕ} {q : State} {after : ℕ} → NestOf s st at end levels e inside q after → Opens (length s) at end levels e inside after
   nest-opens (a-bank i) = record {
     owns =
-        own 14 (ap (λ x. x .place) (i .entry)) (ap (λ x. x .owned) (i .entry)) (i .enters) (omega arith)
+        own blockHeaderSize (ap (λ x. x .block .place) (i .entry)) (ap (λ x. x .block .owned) (i .entry)) (i .enters) (omega arith)
         (omega (arith, i .present, i .enters)) (omega (arith, i .within, i .enters));
     order = omega (arith, i .enters, i .ends);
     within = omega (arith, i .within, i .ends);
@@ -58,7 +61,7 @@ module _ (s : List ℕ) (st : State) (at end levels : ℕ) where
   }
   nest-opens (a-layer i) = record {
     owns =
-        own 389 (ap (λ x. x .place) (i .entry)) (ap (λ x. x .owned) (i .entry)) (i .enters) (omega arith)
+        own layerHead (ap (λ x. x .block .place) (i .entry)) (ap (λ x. x .block .owned) (i .entry)) (i .enters) (omega arith)
         (omega (arith, i .present, i .enters)) (omega (arith, i .within, i .order, i .enters));
     order = omega (arith, i .order, i .enters, i .ends);
     within = omega (arith, i .within, i .ends);
@@ -66,14 +69,14 @@ module _ (s : List ℕ) (st : State) (at end levels : ℕ) where
   }
 
   moved : {k : Step State} → Stepped s st at end levels k → Moves (length s) main at end levels k
-  moved (accepted e top here all) = ends (record { place = e; inside = λ z. absurd (omega arith); whole = λ _. here })
-  moved (ended e inner here all) = ends (record { place = e; inside = λ _. here; whole = λ z. absurd (inner z) })
-  moved (stopped {n} k h) = stops h (never-12 (suc n) k)
+  moved (accepted top here all) = ends (record { inside = λ z. absurd (omega arith); whole = λ _. here })
+  moved (ended inner here all) = ends (record { inside = λ _. here; whole = λ z. absurd (inner z) })
+  moved (stopped h) = stops h
   moved (leafed l) = leaf (leaf-owns l)
   moved (nested n) = nest (nest-opens n)
 
 pub moves : (s : List ℕ) → MovesOn main (length s) (stepAt s)
-moves s st at end levels order low = moved s st at end levels (stepped s st at end levels order low)
+moves s st at end levels order low = moved s st at end levels (stepped s st at end levels low)
 
 -- ### A block waits for its own bytes, and for no more
 
@@ -82,47 +85,52 @@ module _ (len levels : ℕ) (s : List ℕ) (st : State) (at level : ℕ) where
   abbrev B : Step State → Type 0
   B = Beyond len main levels
 
-  image-past : len < at + 52 → (chunk : _) → B (imageJudged st at level chunk)
-  image-past far c = permitted-ind B _ _ _ refused (pick-ind B _ _ _ (λ _. refused) (λ _. leaf-past far))
+  image-past : len < at + imageHead → (chunk : _) → B (imageJudged st at level chunk)
+  image-past far c = permitted-ind B _ _ _ (λ _. refused) (λ _. pick-ind B _ _ _ (λ _. refused) (λ _. leaf-past far))
 
-  palette-past : len < at + 18 → (total : ℕ) (chunk : _) → B (paletteJudged s st total at level chunk)
+  palette-past : len < at + paletteHead → (total : ℕ) (chunk : _) → B (paletteJudged s st total at level chunk)
   unfolding paletteCounted
   palette-past far total c =
-      let past : len < at + 18 + 4 * c .count = omega arith in
-      permitted-ind B _ _ _ refused (pick-ind B _ _ _ (λ _. unit-ind B s (at + 18) (4 * c .count) _ (λ _. refused) (λ _. leaf-past past)) (λ _. refused))
+      let past : len < at + paletteHead + 4 * c .count = omega arith in
+      permitted-ind B _ _ _ (λ _. refused) (λ _.
+      pick-ind B _ _ _ (λ _. unit-ind B s (at + paletteHead) (4 * c .count) _ (λ _. refused) (λ _. leaf-past past)) (λ _. refused))
 
-  layer-past : len < at + 389 → (total : ℕ) (chunk : _) → B (layerJudged st total at level chunk)
-  layer-past far total c = permitted-ind B _ _ _ refused (nest-past far)
+  layer-past : len < at + layerHead → (total : ℕ) (chunk : _) → B (layerJudged st total at level chunk)
+  layer-past far total c = permitted-ind B _ _ _ (λ _. refused) (λ _. nest-past far)
 
-  channel-past : len < at + 26 → (total : ℕ) (chunk : _) → B (channelJudged s st total at level chunk)
+  channel-past : len < at + channelHead → (total : ℕ) (chunk : _) → B (channelJudged s st total at level chunk)
   unfolding channelCoded channelSized
   channel-past far total c =
-      let past : len < at + 26 + c .stored = omega arith in
+      let past : len < at + channelHead + c .stored = omega arith in
       pick-ind B _ _ _
-      (λ _. permitted-ind B _ _ _ refused (pick-ind B _ _ _
-      (λ _. permitted-ind B _ _ _ refused (unit-ind B s (at + 26) (c .stored) _ (λ _. refused) (λ _. leaf-past past)))
+      (λ _. permitted-ind B _ _ _ (λ _. refused) (λ _. pick-ind B _ _ _
+      (λ _. permitted-ind B _ _ _ (λ _. refused) (λ _. unit-ind B s (at + channelHead) (c .stored) _ (λ _. refused) (λ _. leaf-past past)))
       (λ _. refused)))
       (λ _. refused)
 
   -- a block whose header is not all there
-  kind-past : len < at + 14 → (h : BlockHeader) (place : ℕ) → B (kindOf s st h place at level)
-  unfolding kindOf skipBlock imageBlock paletteBlock bankBlock layerBlock channelBlock
-  kind-past far h place =
-      let past : (n : ℕ) → len < at + 14 + n = λ n. omega arith in
-      let to : (n : ℕ) → 14 ≤ n → len < at + n = λ n low. omega arith in
-      pick-ind B _ _ _ (λ _. unit-ind B s (at + 14) (h .total) _ (λ _. refused) (λ _. leaf-past (past (h .total)))) (λ _.
-      pick-ind B _ _ _ (λ _. unit-ind B s (at + 14) 38 _ (λ _. refused) (λ _. image-past (to 52 (omega arith)) _)) (λ _.
-      pick-ind B _ _ _ (λ _. unit-ind B s (at + 14) 4 _ (λ _. refused) (λ _. palette-past (to 18 (omega arith)) (h .total) _)) (λ _.
-      pick-ind B _ _ _ (λ _. nest-past far) (λ _.
-      pick-ind B _ _ _ (λ _. unit-ind B s (at + 14) 375 _ (λ _. refused) (λ _. layer-past (to 389 (omega arith)) (h .total) _)) (λ _.
-      unit-ind B s (at + 14) 12 _ (λ _. refused) (λ _. channel-past (to 26 (omega arith)) (h .total) _))))))
+  module _ (far : len < at + blockHeaderSize) (h : BlockHeader) where
+    skip-past : B (skipBlock s st (h .id) (h .total) at level)
+    unfolding skipBlock
+    skip-past =
+        let past : len < at + blockHeaderSize + h .total = omega arith in
+        unit-ind B s (at + blockHeaderSize) (h .total) _ (λ _. refused) (λ _. leaf-past past)
 
-  placed-past : len < at + 14 → (end : ℕ) (h : BlockHeader) (place : ℕ) → B (placedOf s st h place at end level)
-  unfolding placedOf
-  placed-past far end h place =
-      pick-ind B _ _ _ (λ _. refused) (λ _.
-      pick-ind B _ _ _ (λ _. refused) (λ _.
-      pick-ind B _ _ _ (λ _. kind-past far h place) (λ _. refused)))
+    kind-past : B (kindOf s st h at level)
+    unfolding kindOf imageBlock paletteBlock bankBlock layerBlock channelBlock
+    kind-past =
+        let to : (n : ℕ) → len < at + (blockHeaderSize + n) = λ n. omega arith in
+        pick-ind B _ _ _ (λ _. unit-ind B s (at + blockHeaderSize) imageSize _ (λ _. refused) (λ _. image-past (to imageSize) _)) (λ _.
+        pick-ind B _ _ _ (λ _. unit-ind B s (at + blockHeaderSize) paletteSize _ (λ _. refused) (λ _. palette-past (to paletteSize) (h .total) _)) (λ _.
+        pick-ind B _ _ _ (λ _. nest-past far) (λ _.
+        pick-ind B _ _ _ (λ _. unit-ind B s (at + blockHeaderSize) layerSize _ (λ _. refused) (λ _. layer-past (to layerSize) (h .total) _)) (λ _.
+        unit-ind B s (at + blockHeaderSize) channelSize _ (λ _. refused) (λ _. channel-past (to channelSize) (h .total) _)))))
+
+    placed-past : (end : ℕ) (a : Placing) → B (placedOf s st h a at end level)
+    unfolding placedOf
+    placed-past end Refuse = refused
+    placed-past end Enter = pick-ind B _ _ _ (λ _. refused) (λ _. pick-ind B _ _ _ (λ _. kind-past) (λ _. refused))
+    placed-past end Skip = pick-ind B _ _ _ (λ _. skip-past) (λ _. refused)
 
 module _ (s t : List ℕ) (st : State) (at end levels level : ℕ) where
   abbrev W : Step State → Step State → Type 0
@@ -131,53 +139,55 @@ module _ (s t : List ℕ) (st : State) (at end levels level : ℕ) where
   palette-waits : (total : ℕ) → W (paletteBlock s st total at level) (paletteBlock (s ++ t) st total at level)
   unfolding paletteBlock paletteCounted
   palette-waits total =
-      unit-waits main levels s t (at + 14) 4 _ _ (λ short xs. palette-past (length s) levels (s ++ t) st at level (omega arith) total _) (λ xs.
-      permitted-ind₂ W _ _ _ _ (stays _) (pick-ind₂ W _ _ _ _ _
-      (λ _. unit-waits main levels s t (at + 18) _ _ _ (λ short _. leaf-past short) (λ _. stays _))
+      unit-waits main levels s t (at + blockHeaderSize) paletteSize _ _ (λ short xs. palette-past (length s) levels (s ++ t) st at level (omega arith) total _) (λ xs.
+      permitted-ind₂ W _ _ _ _ (λ _. stays _) (pick-ind₂ W _ _ _ _ _
+      (λ _. unit-waits main levels s t (at + paletteHead) _ _ _ (λ short _. leaf-past short) (λ _. stays _))
       (λ _. stays _)))
 
   channel-waits : (total : ℕ) → W (channelBlock s st total at level) (channelBlock (s ++ t) st total at level)
   unfolding channelBlock channelCoded channelSized
   channel-waits total =
-      unit-waits main levels s t (at + 14) 12 _ _ (λ short xs. channel-past (length s) levels (s ++ t) st at level (omega arith) total _) (λ xs.
+      unit-waits main levels s t (at + blockHeaderSize) channelSize _ _ (λ short xs. channel-past (length s) levels (s ++ t) st at level (omega arith) total _) (λ xs.
       pick-ind₂ W _ _ _ _ _
-      (λ _. permitted-ind₂ W _ _ _ _ (stays _) (pick-ind₂ W _ _ _ _ _
-      (λ _. permitted-ind₂ W _ _ _ _ (stays _) (unit-waits main levels s t (at + 26) _ _ _ (λ short _. leaf-past short) (λ _. stays _)))
+      (λ _. permitted-ind₂ W _ _ _ _ (λ _. stays _) (pick-ind₂ W _ _ _ _ _
+      (λ _. permitted-ind₂ W _ _ _ _ (λ _. stays _) (unit-waits main levels s t (at + channelHead) _ _ _ (λ short _. leaf-past short) (λ _. stays _)))
       (λ _. stays _)))
       (λ _. stays _))
 
-  kind-waits : (h : BlockHeader) (place : ℕ) → W (kindOf s st h place at level) (kindOf (s ++ t) st h place at level)
-  unfolding kindOf skipBlock imageBlock layerBlock
-  kind-waits h place =
-      pick-ind₂ W _ _ _ _ _ (λ _. unit-waits main levels s t (at + 14) (h .total) _ _ (λ short _. leaf-past short) (λ _. stays _)) (λ _.
+  skip-waits : (h : BlockHeader) → W (skipBlock s st (h .id) (h .total) at level) (skipBlock (s ++ t) st (h .id) (h .total) at level)
+  unfolding skipBlock
+  skip-waits h = unit-waits main levels s t (at + blockHeaderSize) (h .total) _ _ (λ short _. leaf-past short) (λ _. stays _)
+
+  kind-waits : (h : BlockHeader) → W (kindOf s st h at level) (kindOf (s ++ t) st h at level)
+  unfolding kindOf imageBlock layerBlock
+  kind-waits h =
       pick-ind₂ W _ _ _ _ _
-      (λ _. unit-waits main levels s t (at + 14) 38 _ _ (λ short xs. image-past (length s) levels s st at level (omega arith) _) (λ _. stays _)) (λ _.
+      (λ _. unit-waits main levels s t (at + blockHeaderSize) imageSize _ _ (λ short xs. image-past (length s) levels s st at level (omega arith) _) (λ _. stays _)) (λ _.
       pick-ind₂ W _ _ _ _ _ (λ _. palette-waits (h .total)) (λ _.
       pick-ind₂ W _ _ _ _ _ (λ _. stays _) (λ _.
       pick-ind₂ W _ _ _ _ _
-      (λ _. unit-waits main levels s t (at + 14) 375 _ _ (λ short xs. layer-past (length s) levels s st at level (omega arith) (h .total) _) (λ _. stays _)) (λ _.
-      channel-waits (h .total))))))
+      (λ _. unit-waits main levels s t (at + blockHeaderSize) layerSize _ _ (λ short xs. layer-past (length s) levels s st at level (omega arith) (h .total) _) (λ _. stays _)) (λ _.
+      channel-waits (h .total)))))
 
-  placed-waits : (h : BlockHeader) (place : ℕ) → W (placedOf s st h place at end level) (placedOf (s ++ t) st h place at end level)
+  placed-waits : (h : BlockHeader) (a : Placing) → W (placedOf s st h a at end level) (placedOf (s ++ t) st h a at end level)
   unfolding placedOf
-  placed-waits h place =
-      pick-ind₂ W _ _ _ _ _ (λ _. stays _) (λ _.
-      pick-ind₂ W _ _ _ _ _ (λ _. stays _) (λ _.
-      pick-ind₂ W _ _ _ _ _ (λ _. kind-waits h place) (λ _. stays _)))
+  placed-waits h Refuse = stays _
+  placed-waits h Enter = pick-ind₂ W _ _ _ _ _ (λ _. stays _) (λ _. pick-ind₂ W _ _ _ _ _ (λ _. kind-waits h) (λ _. stays _))
+  placed-waits h Skip = pick-ind₂ W _ _ _ _ _ (λ _. skip-waits h) (λ _. stays _)
 
-block-past : (len : ℕ) (s : List ℕ) (st : State) (at end levels : ℕ) → len < at + 14 → Beyond len main levels (blockAt s st at end levels)
+block-past : (len : ℕ) (s : List ℕ) (st : State) (at end levels : ℕ) → len < at + blockHeaderSize → Beyond len main levels (blockAt s st at end levels)
 unfolding blockAt
 block-past len s st at end levels far =
     let B = Beyond len main levels in
-    unit-ind B s at 14 _ (λ _. refused) (λ _. pick-ind B _ _ _ (λ _. placed-past len levels s st at (levelOf levels) far end _ _) (λ _. refused))
+    unit-ind B s at blockHeaderSize _ (λ _. refused) (λ _. pick-ind B _ _ _ (λ _. placed-past len levels s st at (levelOf levels) far _ end _) (λ _. refused))
 
 -- a step k on more input, which is the block there where the header was present already
 block-waits :
-    (s t : List ℕ) (st : State) (at end levels : ℕ) (k : Step State) → (length s < at + 14 → Beyond (length s) main levels k)
-    → (at + 14 ≤ length s → k ≡ blockAt (s ++ t) st at end levels) → Waits (length s) main levels (blockAt s st at end levels) k
+    (s t : List ℕ) (st : State) (at end levels : ℕ) (k : Step State) → (length s < at + blockHeaderSize → Beyond (length s) main levels k)
+    → (at + blockHeaderSize ≤ length s → k ≡ blockAt (s ++ t) st at end levels) → Waits (length s) main levels (blockAt s st at end levels) k
 unfolding blockAt
 block-waits s t st at end levels k past is =
-    unit-waits-to main levels s t at 14 _ _ k past
+    unit-waits-to main levels s t at blockHeaderSize _ _ k past
     (λ xs. pick-ind₂ (Waits (length s) main levels) _ _ _ _ _ (λ _. placed-waits s t st at end levels (levelOf levels) _ _) (λ _. stays _)) is
 
 waiting : (s t : List ℕ) → WaitsOn main (length s) (stepAt s) (stepAt (s ++ t))
@@ -185,11 +195,11 @@ unfolding stepAt
 waiting s t st at end levels order low =
     let W = Waits (length s) main levels in
     let B = Beyond (length s) main levels in
-    let beyond : length s < at + 14 → B (blockAt (s ++ t) st at end levels) = block-past (length s) (s ++ t) st at end levels in
+    let beyond : length s < at + blockHeaderSize → B (blockAt (s ++ t) st at end levels) = block-past (length s) (s ++ t) st at end levels in
     pick-ind₂ W _ _ _ _ _
     (λ top.
     let is = eqb-true levels main top in
-    let further : length s < at + 14 → B _ =
+    let further : length s < at + blockHeaderSize → B _ =
     λ short. pick-ind B (eqb at (length (s ++ t))) _ _ (λ _. pick-ind B _ _ _ (λ _. last-end is) (λ _. refused)) (λ _. beyond short) in
     pick-left W _ _ _ _
     (λ here. pick-left W _ _ _ _

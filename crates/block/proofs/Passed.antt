@@ -1,15 +1,25 @@
--- What the tests that a block has passed say: that there is room for one more layer or channel, and which kind it is.
-use mathlib.Core.Path.{_≡_}
+-- What the tests that a block has passed say: that there is room for it, and its total where its kind fixes one.
+use mathlib.Core.Path.{_≡_, sym, ap, subst, _∙_}
 use mathlib.Core.Bool.{true, false, _&&_, _||_}
 use Prim.Native.Nat.{ℕ, _<_, _≤_}
 use native.Mathlib.Omega.{arith}
-use borrow.Author.Tests.{eq-eqb, eqb-true, eqb-false, leb-true, leb-false}
+use borrow.Author.Tests.{eq-eqb, ne-eqb, eqb-true, eqb-false, leb-true, leb-false}
 use lib.Dec.{eqb, leb}
-use Rattle.laws.proofs.Tests.{both, either, neither, other-not}
-use Rattle.chunk.specs.declared.block_header.BlockHeader.{BlockHeader}
-use Rattle.block.specs.declared.state.State.{State}
-use Rattle.block.specs.State.{isSurplus}
-use Rattle.block.specs.Step.{areLengths}
+use Rattle.laws.specs.Choice.{pick}
+use Rattle.laws.proofs.Choice.{pick-no}
+use Rattle.laws.proofs.Tests.{both, neither, other-not}
+use Rattle.headers.specs.declared.block_header.BlockHeader.{BlockHeader}
+use Rattle.attributes.specs.ImageAttributes.{imageSize}
+use Rattle.chunk.specs.LayerInformation.{layerSize}
+use Rattle.memory.specs.declared.parent.Parent.{Parent}
+use Rattle.memory.specs.declared.places.Placing.the-variants.{Enter}
+use Rattle.memory.specs.declared.state.State.{State}
+use Rattle.memory.specs.State.{isSurplus}
+use Rattle.memory.specs.Place.{placeOf}
+use Rattle.memory.proofs.Placed.{Placed, image, palette, bank, layer, channel, placed}
+use Rattle.block.specs.Step.{areLengths, Roomy}
+
+-- ### Room
 
 pub layer-room : (st : State) (id : ℕ) → isSurplus st id ≡ false → id ≡ 4 → st .found < st .image .layers
 layer-room st id h e =
@@ -20,58 +30,55 @@ channel-room st id h e =
     let some = eqb-false (st .layer .left) 0 (other-not (eqb id 5) _ (neither (eqb id 4 && leb (st .image .layers) (st .found)) _ h .1) (eq-eqb id 5 e)) in
     omega arith
 
--- the lengths of a block, by its kind
-pub data Lengths (place : ℕ) (h : BlockHeader) : Type 0 where
-  of-skip : place ≡ 2 → Lengths place h
-  of-image : h .id ≡ 0 → h .total ≡ 38 → Lengths place h
-  of-palette : h .id ≡ 2 → Lengths place h
-  of-bank : h .id ≡ 3 → Lengths place h
-  of-layer : h .id ≡ 4 → 375 ≤ h .total → Lengths place h
-  of-channel : h .id ≡ 5 → Lengths place h
+-- an id that is entered is one of five, of which the last is a channel's
+channel-id :
+    {st : State} {id : ℕ} {p : Parent} → Placed st id p Enter
+    → (id ≡ 0 → ⊥) → (id ≡ 2 → ⊥) → (id ≡ 3 → ⊥) → (id ≡ 4 → ⊥) → id ≡ 5
+channel-id (image _ e) a b c d = absurd (a e)
+channel-id (palette _ e _ _) a b c d = absurd (b e)
+channel-id (bank _ e _) a b c d = absurd (c e)
+channel-id (layer _ e) a b c d = absurd (d e)
+channel-id (channel _ e) a b c d = e
 
-pub lengths : (place : ℕ) (h : BlockHeader) → areLengths place h ≡ true → Lengths place h
-lengths place h good =
-    let a = eqb place 2 in
-    let b = eqb (h .id) 0 && eqb (h .initial) 38 && eqb (h .total) 38 in
-    let d = eqb (h .id) 2 && eqb (h .initial) 4 && leb 4 (h .total) in
-    let e = eqb (h .id) 3 && eqb (h .initial) 0 in
-    let f = eqb (h .id) 4 && (eqb (h .initial) 375 || eqb (h .initial) 0) && leb 375 (h .total) in
-    either (a || b || d || e || f) _ good (λ x.
-    either (a || b || d || e) _ x (λ x.
-    either (a || b || d) _ x (λ x.
-    either (a || b) _ x (λ x.
-    either a _ x (λ y. of-skip (eqb-true _ _ y))
-    (λ y. let p = both (eqb (h .id) 0 && eqb (h .initial) 38) _ y in of-image (eqb-true _ _ (both (eqb (h .id) 0) _ (p .0) .0)) (eqb-true _ _ (p .1))))
-    (λ y. of-palette (eqb-true _ _ (both (eqb (h .id) 2) _ (both (eqb (h .id) 2 && eqb (h .initial) 4) _ y .0) .0))))
-    (λ y. of-bank (eqb-true _ _ (both (eqb (h .id) 3) _ y .0))))
-    (λ y. let p = both (eqb (h .id) 4 && (eqb (h .initial) 375 || eqb (h .initial) 0)) _ y in
-    of-layer (eqb-true _ _ (both (eqb (h .id) 4) _ (p .0) .0)) (leb-true _ _ (p .1))))
-    (λ y. of-channel (eqb-true _ _ (both (eqb (h .id) 5) _ (both (eqb (h .id) 5 && eqb (h .initial) 12) _ y .0) .0)))
+pub roomy : (st : State) (id : ℕ) (p : Parent) → placeOf st id p ≡ Enter → isSurplus st id ≡ false → Roomy st id
+roomy st id p enters h = record {
+  layer = layer-room st id h;
+  channel = λ a b c d. channel-room st id h (channel-id (subst (Placed st id p) enters (placed st id p)) a b c d);
+}
 
--- a block whose lengths are good and that is none of the others is a channel
-pub is-channel :
-    {place : ℕ} {h : BlockHeader} → Lengths place h
-    → (place ≡ 2 → ⊥) → (h .id ≡ 0 → ⊥) → (h .id ≡ 2 → ⊥) → (h .id ≡ 3 → ⊥) → (h .id ≡ 4 → ⊥) → h .id ≡ 5
-is-channel (of-skip e) skip image palette bank layer = absurd (skip e)
-is-channel (of-image e t) skip image palette bank layer = absurd (image e)
-is-channel (of-palette e) skip image palette bank layer = absurd (palette e)
-is-channel (of-bank e) skip image palette bank layer = absurd (bank e)
-is-channel (of-layer e t) skip image palette bank layer = absurd (layer e)
-is-channel (of-channel e) skip image palette bank layer = e
+-- ### A choice by the id
 
--- a block that is entered: an image's total, and a layer's
-pub image-total : (h : BlockHeader) → Lengths 1 h → h .id ≡ 0 → h .total ≡ 38
-image-total h (of-skip e) z = absurd (omega arith)
-image-total h (of-image e t) z = t
-image-total h (of-palette e) z = absurd (omega arith)
-image-total h (of-bank e) z = absurd (omega arith)
-image-total h (of-layer e t) z = absurd (omega arith)
-image-total h (of-channel e) z = absurd (omega arith)
+abbrev byId : {A : Type 0} → ℕ → A → A → A → A → A → A
+byId id a b c d e = pick (eqb id 0) a (pick (eqb id 2) b (pick (eqb id 3) c (pick (eqb id 4) d e)))
 
-pub layer-total : (h : BlockHeader) → Lengths 1 h → h .id ≡ 4 → 375 ≤ h .total
-layer-total h (of-skip e) z = absurd (omega arith)
-layer-total h (of-image e t) z = absurd (omega arith)
-layer-total h (of-palette e) z = absurd (omega arith)
-layer-total h (of-bank e) z = absurd (omega arith)
-layer-total h (of-layer e t) z = t
-layer-total h (of-channel e) z = absurd (omega arith)
+module _ {A : Type 0} (id : ℕ) (a b c d e : A) where
+  pub by-image : id ≡ 0 → byId id a b c d e ≡ a
+  unfolding pick
+  by-image h = ap (λ (i : ℕ). byId i a b c d e) h
+
+  pub by-palette : id ≡ 2 → byId id a b c d e ≡ b
+  unfolding pick
+  by-palette h = ap (λ (i : ℕ). byId i a b c d e) h
+
+  pub by-bank : id ≡ 3 → byId id a b c d e ≡ c
+  unfolding pick
+  by-bank h = ap (λ (i : ℕ). byId i a b c d e) h
+
+  pub by-layer : id ≡ 4 → byId id a b c d e ≡ d
+  unfolding pick
+  by-layer h = ap (λ (i : ℕ). byId i a b c d e) h
+
+  pub by-other : (id ≡ 0 → ⊥) → (id ≡ 2 → ⊥) → (id ≡ 3 → ⊥) → (id ≡ 4 → ⊥) → byId id a b c d e ≡ e
+  by-other i p k l =
+      pick-no _ _ _ (ne-eqb id 0 i) ∙ pick-no _ _ _ (ne-eqb id 2 p) ∙ pick-no _ _ _ (ne-eqb id 3 k) ∙ pick-no _ _ _ (ne-eqb id 4 l)
+
+-- ### Lengths
+
+pub image-total : (h : BlockHeader) → areLengths h ≡ true → h .id ≡ 0 → h .total ≡ imageSize
+unfolding areLengths
+image-total h good e = eqb-true _ _ (both (eqb (h .initial) imageSize) _ (sym (by-image _ _ _ _ _ _ e) ∙ good) .1)
+
+pub layer-total : (h : BlockHeader) → areLengths h ≡ true → h .id ≡ 4 → layerSize ≤ h .total
+unfolding areLengths
+layer-total h good e =
+    leb-true _ _ (both (eqb (h .initial) layerSize || eqb (h .initial) 0) _ (sym (by-layer _ _ _ _ _ _ e) ∙ good) .1)

@@ -1,76 +1,79 @@
--- What stands at a place of an input: document 01, "Order at every block".
-use Prim.Native.Nat.{ℕ, _+_, _-_}
+-- What stands at a place of an input: the order of tests at every block (document 01, "Units, and when they are judged").
+use Prim.Native.Nat.{ℕ, _+_, _-_, _<_}
+use mathlib.Core.Path.{_≡_}
 use mathlib.Core.Bool.{Bool, _&&_, _||_}
 use mathlib.Core.List.{List}
 use lib.Dec.{eqb, leb, ltb}
 use lib.ListN.{length}
 use Rattle.laws.specs.Choice.{pick}
-use Rattle.walk.specs.Walk as walk
-use Rattle.walk.specs.Walk.{Stop, Leaf, Nest}
+use Rattle.answer.specs.declared.Refusal.the-variants.{EndsTooSoon, WrongMark, WrongLength, OutOfPlace, NotExpected, Missing}
+use Rattle.walk.specs.Walk.{End, Stop}
 use Rattle.walk.specs.Unit.{unit}
-use Rattle.chunk.specs.declared.block_header.BlockHeader.{BlockHeader}
-use Rattle.chunk.specs.BlockHeader.{blockHeaderOf, isMarked}
-use Rattle.block.specs.declared.state.State.{State}
-use Rattle.block.specs.declared.Step.{Step}
-use Rattle.block.specs.declared.Step.the-variants as code
-use Rattle.block.specs.State.{isSurplus, isFull, isComplete}
-use Rattle.block.specs.Place.{placeOf}
-use Rattle.block.specs.Blocks.{unless, imageBlock, paletteBlock, bankBlock, layerBlock, channelBlock, skipBlock}
+use Rattle.headers.specs.declared.block_header.BlockHeader.{BlockHeader}
+use Rattle.headers.specs.BlockHeader.{blockHeaderSize, blockHeaderOf, isMarked}
+use Rattle.attributes.specs.ImageAttributes.{imageSize}
+use Rattle.chunk.specs.ColorPalette.{paletteSize}
+use Rattle.chunk.specs.LayerInformation.{layerSize}
+use Rattle.chunk.specs.ChannelInformation.{channelSize}
+use Rattle.memory.specs.declared.places.Placing.{Placing}
+use Rattle.memory.specs.declared.places.Placing.the-variants.{Refuse, Enter, Skip}
+use Rattle.memory.specs.declared.state.State.{State}
+use Rattle.memory.specs.Parent.{main, levelOf, parentAt}
+use Rattle.memory.specs.State.{isSurplus, isFull}
+use Rattle.memory.specs.Place.{placeOf}
+use Rattle.kinds.specs.Blocks.{Judged, unless, imageBlock, paletteBlock, bankBlock, skipBlock}
+use Rattle.layers.specs.Layers.{layerBlock, channelBlock}
 
--- the code's step, as the walk's
-abbrev pub told : Step → walk.Step State
-told (code.Stop n p) = Stop n p
-told (code.Leaf e next st) = Leaf e next st
-told (code.Nest e inside st after) = Nest e inside st after
+-- the lengths of a block that is entered, by its id. A layer's initial length may be 0
+unfoldable pub areLengths : BlockHeader → Bool
+areLengths h =
+    pick (eqb (h .id) 0) (eqb (h .initial) imageSize && eqb (h .total) imageSize)
+    (pick (eqb (h .id) 2) (eqb (h .initial) paletteSize && leb paletteSize (h .total))
+    (pick (eqb (h .id) 3) (eqb (h .initial) 0)
+    (pick (eqb (h .id) 4) ((eqb (h .initial) layerSize || eqb (h .initial) 0) && leb layerSize (h .total))
+    (eqb (h .initial) channelSize && leb channelSize (h .total)))))
 
--- the levels left at the main level: main, bank, layer
-abbrev pub main : ℕ
-main = 2
-
-abbrev pub levelOf : ℕ → ℕ
-levelOf levels = main - levels
-
--- the lengths of a block by its id. A skipped block's initial length is not judged
-abbrev pub areLengths : ℕ → BlockHeader → Bool
-areLengths place h =
-    eqb place 2
-    || (eqb (h .id) 0 && eqb (h .initial) 38 && eqb (h .total) 38)
-    || (eqb (h .id) 2 && eqb (h .initial) 4 && leb 4 (h .total))
-    || (eqb (h .id) 3 && eqb (h .initial) 0)
-    || (eqb (h .id) 4 && (eqb (h .initial) 375 || eqb (h .initial) 0) && leb 375 (h .total))
-    || (eqb (h .id) 5 && eqb (h .initial) 12 && leb 12 (h .total))
+-- its total stays inside its parent
+abbrev pub isInside : BlockHeader → ℕ → ℕ → Bool
+isInside h at end = leb (at + blockHeaderSize + h .total) end
 
 -- then the chunk, by kind
-unfoldable pub kindOf : List ℕ → State → BlockHeader → ℕ → ℕ → ℕ → walk.Step State
-kindOf s st h place at level =
-    pick (eqb place 2) (skipBlock s st (h .id) (h .total) at level)
-    (pick (eqb (h .id) 0) (imageBlock s st at level)
+unfoldable pub kindOf : List ℕ → State → BlockHeader → ℕ → ℕ → Judged
+kindOf s st h at level =
+    pick (eqb (h .id) 0) (imageBlock s st at level)
     (pick (eqb (h .id) 2) (paletteBlock s st (h .total) at level)
     (pick (eqb (h .id) 3) (bankBlock st (h .total) at level)
     (pick (eqb (h .id) 4) (layerBlock s st (h .total) at level)
-    (channelBlock s st (h .total) at level)))))
+    (channelBlock s st (h .total) at level))))
 
--- place (7); one layer or channel more than announced (9); lengths, including total past the parent's end (6)
-unfoldable pub placedOf : List ℕ → State → BlockHeader → ℕ → ℕ → ℕ → ℕ → walk.Step State
-placedOf s st h place at end level =
-    pick (eqb place 0) (Stop 7 at)
-    (pick (isSurplus st (h .id)) (Stop 9 at)
-    (unless (areLengths place h && leb (at + 14 + h .total) end) (Stop 6 at)
-    (kindOf s st h place at level)))
+-- refused (7); entered: one more than announced (9), its lengths (6); skipped: only its total is judged (6)
+unfoldable pub placedOf : List ℕ → State → BlockHeader → Placing → ℕ → ℕ → ℕ → Judged
+placedOf s st h Refuse at end level = Stop OutOfPlace at
+placedOf s st h Enter at end level =
+    pick (isSurplus st (h .id)) (Stop NotExpected at)
+    (unless (areLengths h && isInside h at end) (Stop WrongLength at)
+    (kindOf s st h at level))
+placedOf s st h Skip at end level = unless (isInside h at end) (Stop WrongLength at) (skipBlock s st (h .id) (h .total) at level)
 
--- presence (2); mark (5)
-unfoldable pub blockAt : List ℕ → State → ℕ → ℕ → ℕ → walk.Step State
+-- presence (2), the mark (5), then the place, by what holds the block
+unfoldable pub blockAt : List ℕ → State → ℕ → ℕ → ℕ → Judged
 blockAt s st at end levels =
-    unit s at 14 (λ header.
-    unless (isMarked (blockHeaderOf header)) (Stop 5 at)
-    (placedOf s st (blockHeaderOf header) (placeOf st (blockHeaderOf header .id) (levelOf levels)) at end (levelOf levels)))
+    unit s at blockHeaderSize (λ header.
+    unless (isMarked (blockHeaderOf header)) (Stop WrongMark at)
+    (placedOf s st (blockHeaderOf header) (placeOf st (blockHeaderOf header .id) (parentAt levels)) at end (levelOf levels)))
 
--- inside a parent: none left is its end, where layers or channels may be missing (10), and 1 to 13 bytes left are 6. A main block has no
--- parent end: input that stops at a main boundary is accepted once all is there, otherwise 2 at the input length
-unfoldable pub stepAt : List ℕ → State → ℕ → ℕ → ℕ → walk.Step State
+-- at the main level the input may stop, once all is there (otherwise 2). Inside a parent none left is its end, where something may be
+-- missing (10), and a rest too short for a header is 6
+unfoldable pub stepAt : List ℕ → State → ℕ → ℕ → ℕ → Judged
 stepAt s st at end levels =
     pick (eqb levels main)
-    (pick (eqb at (length s)) (unless (isComplete st) (Stop 2 at) (Stop 0 at)) (blockAt s st at end levels))
-    (pick (eqb at end) (unless (isFull st levels) (Stop 10 at) (Stop 0 at))
-    (pick (ltb (end - at) 14) (Stop 6 at)
+    (pick (eqb at (length s)) (unless (isFull st (parentAt levels)) (Stop EndsTooSoon at) End) (blockAt s st at end levels))
+    (pick (eqb at end) (unless (isFull st (parentAt levels)) (Stop Missing at) End)
+    (pick (ltb (end - at) blockHeaderSize) (Stop WrongLength at)
     (blockAt s st at end levels)))
+
+-- ### What the code knows of a block that is entered: there is room for it, whatever its kind
+
+pub record Roomy (st : State) (id : ℕ) : Type 0 where
+  pub layer : id ≡ 4 → st .found < st .image .layers
+  pub channel : (id ≡ 0 → ⊥) → (id ≡ 2 → ⊥) → (id ≡ 3 → ⊥) → (id ≡ 4 → ⊥) → 0 < st .layer .left

@@ -1,94 +1,126 @@
-// A block: its header, place, count and lengths; then its kind.
-use crate::MAIN;
-use crate::Step;
-use crate::bank::bank_block;
-use crate::channel::channel_block;
-use crate::image::image_block;
-use crate::layer::layer_block;
-use crate::palette::palette_block;
-use crate::place::REFUSE;
-use crate::place::SKIP;
-use crate::place::place;
-use crate::skip::skip_block;
-use crate::state::State;
-use chunk::block_header::BlockHeader;
+// A block: its header, its place, its count and its lengths; then its kind.
+use answer::Refusal;
+use attributes::image_attributes::ImageChunk;
+use chunk::channel_information::ChannelChunk;
+use chunk::color_palette::PaletteChunk;
+use chunk::layer_information::LayerChunk;
+use headers::block_header::BlockHeader;
+use kinds::Step;
+use memory::MAIN;
+use memory::Parent;
+use memory::Placing;
+use memory::State;
 ghost use mathlib.Core.Path.{_≡_};
-ghost use mathlib.Core.Bool.{true, false};
-ghost use Prim.Native.Nat.{_+_, _≤_, _<_, _^_};
+ghost use Prim.Native.Nat.{_≤_, _<_, _^_};
 ghost use lib.ListN.{length};
 ghost use Rattle.limits.specs.Limits.{inputLimit};
-ghost use Rattle.block.specs.Headed.{Headed};
-ghost use Rattle.block.specs.State.{isSurplus};
-ghost use Rattle.block.specs.Step.{told, main, areLengths, kindOf, placedOf, blockAt};
+ghost use Rattle.memory.specs.declared.places.Placing.the-variants as placing;
+ghost use Rattle.memory.specs.Parent.{main};
+ghost use Rattle.memory.specs.Place.{placeOf};
+ghost use Rattle.kinds.specs.Headed.{Headed};
+ghost use Rattle.kinds.specs.Blocks.{told};
+ghost use Rattle.block.specs.Step.{areLengths, kindOf, placedOf, blockAt, Roomy};
 
-// The lengths of a block by its id. A skipped block's initial length is not judged.
-fn lengths(place: u8, h: BlockHeader) -> bool
-    ensures { λ r. ⌜ r ≡ areLengths place h ⌝ }
+// The lengths of a block that is entered, by its id.
+fn lengths(h: BlockHeader) -> bool
+    ensures { λ r. ⌜ r ≡ areLengths h ⌝ }
 {
-    (place == SKIP)
-        | ((h.id == 0) & (h.initial == 38) & (h.total == 38))
-        | ((h.id == 2) & (h.initial == 4) & (4 <= h.total))
-        | ((h.id == 3) & (h.initial == 0))
-        | ((h.id == 4) & ((h.initial == 375) | (h.initial == 0)) & (375 <= h.total))
-        | ((h.id == 5) & (h.initial == 12) & (12 <= h.total))
+    let id = h.id;
+    let initial = h.initial as usize;
+    let total = h.total as usize;
+    match id {
+        0 => (initial == ImageChunk::SIZE) & (total == ImageChunk::SIZE),
+        2 => (initial == PaletteChunk::SIZE) & (PaletteChunk::SIZE <= total),
+        3 => initial == 0,
+        4 => ((initial == LayerChunk::SIZE) | (initial == 0)) & (LayerChunk::SIZE <= total),
+        _ => (initial == ChannelChunk::SIZE) & (ChannelChunk::SIZE <= total),
+    }
 }
 
 // Its chunk, by kind.
-fn kind(s: &[u8], st: State, h: BlockHeader, place: u8, at: usize, level: usize) -> Step
-    requires { ⌜ (Headed (now s) at level) × (isSurplus st (h .id) ≡ false) × (areLengths place h ≡ true) ⌝ }
-    ensures { λ r. ⌜ told r ≡ kindOf (now (s .entry)) st h place at level ⌝ }
+fn kind(s: &[u8], st: State, h: BlockHeader, at: usize, level: usize) -> Step
+    requires { ⌜ (Headed (now s) at level) × (Roomy st (h .id)) ⌝ }
+    ensures { λ r. ⌜ told r ≡ kindOf (now (s .entry)) st h at level ⌝ }
 {
-    if place == SKIP {
-        return skip_block(s, st, h.id, h.total, at, level);
-    }
     if h.id == 0 {
-        return image_block(s, st, at, level);
+        return kinds::image_block(s, st, at, level);
     }
     if h.id == 2 {
-        return palette_block(s, st, h.total, at, level);
+        return kinds::palette_block(s, st, h.total, at, level);
     }
     if h.id == 3 {
-        return bank_block(st, h.total, at, level);
+        return kinds::bank_block(st, h.total, at, level);
     }
     if h.id == 4 {
-        return layer_block(s, st, h.total, at, level);
+        return layers::layer_block(s, st, h.total, at, level);
     }
-    channel_block(s, st, h.total, at, level)
+    layers::channel_block(s, st, h.total, at, level)
 }
 
-// Place (7), one layer or channel more than announced (9), lengths (6).
+// One more than announced (9), lengths (6).
+fn entered(
+    s: &[u8],
+    st: State,
+    h: BlockHeader,
+    at: usize,
+    end: usize,
+    level: usize,
+    parent: Parent,
+) -> Step
+    requires { ⌜ (Headed (now s) at level) × (placeOf st (h .id) parent ≡ placing.Enter) ⌝ }
+    ensures { λ r. ⌜ told r ≡ placedOf (now (s .entry)) st h placing.Enter at end level ⌝ }
+{
+    if st.surplus(h.id) {
+        return Step::Stop {
+            refusal: Refusal::NotExpected,
+            place: at,
+        };
+    }
+    let after = at + BlockHeader::SIZE + h.total as usize;
+    if lengths(h) & (after <= end) {
+        return kind(s, st, h, at, level);
+    }
+    Step::Stop {
+        refusal: Refusal::WrongLength,
+        place: at,
+    }
+}
+
+// Only its total is judged (6).
+fn skipped(s: &[u8], st: State, h: BlockHeader, at: usize, end: usize, level: usize) -> Step
+    requires { ⌜ Headed (now s) at level ⌝ }
+    ensures { λ r. ⌜ told r ≡ placedOf (now (s .entry)) st h placing.Skip at end level ⌝ }
+{
+    let after = at + BlockHeader::SIZE + h.total as usize;
+    if after <= end {
+        return kinds::skip_block(s, st, h.id, h.total, at, level);
+    }
+    Step::Stop {
+        refusal: Refusal::WrongLength,
+        place: at,
+    }
+}
+
+// Its place (7), by what holds it.
 fn placed(
     s: &[u8],
     st: State,
     h: BlockHeader,
-    place: u8,
     at: usize,
     end: usize,
     level: usize,
+    parent: Parent,
 ) -> Step
     requires { ⌜ Headed (now s) at level ⌝ }
-    ensures { λ r. ⌜ told r ≡ placedOf (now (s .entry)) st h place at end level ⌝ }
+    ensures { λ r. ⌜ told r ≡ placedOf (now (s .entry)) st h (placeOf st (h .id) parent) at end level ⌝ }
 {
-    if place == REFUSE {
-        return Step::Stop {
-            number: 7,
+    match memory::place(st, h.id, parent) {
+        Placing::Refuse => Step::Stop {
+            refusal: Refusal::OutOfPlace,
             place: at,
-        };
-    }
-    if st.surplus(h.id) {
-        return Step::Stop {
-            number: 9,
-            place: at,
-        };
-    }
-    let chunk = at + BlockHeader::SIZE;
-    let after = chunk + h.total as usize;
-    if lengths(place, h) & (after <= end) {
-        return kind(s, st, h, place, at, level);
-    }
-    Step::Stop {
-        number: 6,
-        place: at,
+        },
+        Placing::Enter => entered(s, st, h, at, end, level, parent),
+        Placing::Skip => skipped(s, st, h, at, end, level),
     }
 }
 
@@ -100,18 +132,16 @@ pub fn block(s: &[u8], st: State, at: usize, end: usize, levels: usize) -> Step
     let chunk = at + BlockHeader::SIZE;
     if s.len() < chunk {
         return Step::Stop {
-            number: 2,
+            refusal: Refusal::EndsTooSoon,
             place: at,
         };
     }
     let h = BlockHeader::decode(s, at);
     if h.marked() {
-        let level = MAIN - levels;
-        let p = place(st, h.id, level);
-        return placed(s, st, h, p, at, end, level);
+        return placed(s, st, h, at, end, MAIN - levels, Parent::at(levels));
     }
     Step::Stop {
-        number: 5,
+        refusal: Refusal::WrongMark,
         place: at,
     }
 }

@@ -1,14 +1,18 @@
 // One look at one place: the parent's end and what is left of it, or the end of the input; then a block.
-use crate::MAIN;
-use crate::Step;
 use crate::header::block;
-use crate::state::State;
-use chunk::block_header::BlockHeader;
+use answer::Refusal;
+use headers::block_header::BlockHeader;
+use kinds::Step;
+use memory::MAIN;
+use memory::Parent;
+use memory::State;
 ghost use mathlib.Core.Path.{_≡_};
 ghost use Prim.Native.Nat.{_≤_, _<_, _^_};
 ghost use lib.ListN.{length};
 ghost use Rattle.limits.specs.Limits.{inputLimit};
-ghost use Rattle.block.specs.Step.{told, main, stepAt};
+ghost use Rattle.memory.specs.Parent.{main};
+ghost use Rattle.kinds.specs.Blocks.{told};
+ghost use Rattle.block.specs.Step.{stepAt};
 
 // Inside a parent: none left is its end, 1 to 13 bytes left are 6.
 fn inside(s: &[u8], st: State, at: usize, end: usize, levels: usize) -> Step
@@ -16,20 +20,17 @@ fn inside(s: &[u8], st: State, at: usize, end: usize, levels: usize) -> Step
     ensures { λ r. ⌜ told r ≡ stepAt (now (s .entry)) st at end levels ⌝ }
 {
     if at == end {
-        if st.full(levels) {
-            return Step::Stop {
-                number: 0,
-                place: at,
-            };
+        if st.full(Parent::at(levels)) {
+            return Step::End;
         }
         return Step::Stop {
-            number: 10,
+            refusal: Refusal::Missing,
             place: at,
         };
     }
     if end - at < BlockHeader::SIZE {
         return Step::Stop {
-            number: 6,
+            refusal: Refusal::WrongLength,
             place: at,
         };
     }
@@ -46,14 +47,11 @@ pub fn look(s: &[u8], st: State, at: usize, end: usize, levels: usize) -> Step
     if at != s.len() {
         return block(s, st, at, end, levels);
     }
-    if st.complete() {
-        return Step::Stop {
-            number: 0,
-            place: at,
-        };
+    if st.full(Parent::at(levels)) {
+        return Step::End;
     }
     Step::Stop {
-        number: 2,
+        refusal: Refusal::EndsTooSoon,
         place: at,
     }
 }

@@ -1,4 +1,4 @@
-// Placing a plane on a canvas (document 01, Canvas and palette): row by row, into the middle of a canvas that the caller lends. The one
+// Placing a plane on a lent canvas (document 01, Canvas and palette): each clipped row goes into the part of the canvas that it covers. The one
 // entry point, `place`, has no `requires`, and it tests all before it writes one byte.
 mod clip;
 mod numbers;
@@ -11,10 +11,10 @@ pub use placer::place;
 pub enum PlaceAnswer {
     // 0: each pixel that canvas and rectangle share has its byte
     Placed,
-    // 40: a canvas side that is not 1 to 4,096, or a canvas length that is not their product
+    // 40: no such canvas
     BadCanvas,
-    // 41: a rectangle that breaks a coordinate, order or side rule
+    // 41: no such rectangle
     BadRect,
-    // 42: a plane length that is not row times height
+    // 42: a plane that is not the rectangle's
     BadPlane,
 }

@@ -17,8 +17,8 @@ fn is_canvas(width: u32, height: u32, length: usize) -> bool
         & (length == (width as usize) * (height as usize))
 }
 
-// Places an 8-bit plane. 40: a canvas side is not 1 to 4,096, or the canvas length not their product. 41: r breaks a coordinate, order
-// or side rule. 42: the plane length is not row times height. Unless all is well, the canvas is untouched.
+// Places an 8-bit plane. 40: no such canvas. 41: no such rectangle. 42: a plane that is not the rectangle's. A refusal leaves the canvas
+// untouched.
 pub fn place(width: u32, height: u32, canvas: &mut [u8], r: Rect, plane: &[u8]) -> PlaceAnswer
     ensures { λ a. ⌜ placeResult a (now (canvas .exit)) ≡ placed width height (now (canvas .entry)) r (now (plane .entry)) ⌝ }
 {

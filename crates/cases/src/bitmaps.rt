@@ -1,8 +1,8 @@
-// C: width, height, rectangle, canvas, plane.
+// Cases of a plane placed on a canvas. C: width, height, rectangle, canvas, plane.
 use crate::fields::ends;
 use crate::fields::refuse;
 use crate::hash;
-use print::text;
+use printing::text;
 use rect::Rect;
 ghost use mathlib.Core.Path.{_≡_};
 ghost use Prim.Native.Nat.{_+_, _≤_, _<_};
@@ -20,8 +20,8 @@ fn place_on(width: u32, height: u32, r: Rect, canvas: &[u8], plane: &[u8], pixel
     copy(canvas, pixels);
     let a = canvas::place(width, height, pixels, r, plane);
     text(b"C");
-    print::number(a.number() as u64);
-    print::number(hash::of_bytes(pixels) as u64);
+    printing::number(a.number() as u64);
+    printing::number(hash::of_bytes(pixels) as u64);
     text(b"\n");
 }
 
@@ -46,8 +46,8 @@ fn parts(payload: &[u8], end: usize)
     requires { ⌜ (28 ≤ end) × (end + 4 ≤ length (now payload)) ⌝ }
 {
     place(
-        little::u32_at(payload, 0),
-        little::u32_at(payload, 4),
+        endian::u32_at(payload, 0),
+        endian::u32_at(payload, 4),
         Rect::decode(payload, 8),
         &payload[28..end],
         &payload[end + 4..],
@@ -69,5 +69,5 @@ pub fn canvas(payload: &[u8]) {
         refuse(b"C");
         return;
     }
-    parted(payload, 28 + little::u32_at(payload, 24) as usize);
+    parted(payload, 28 + endian::u32_at(payload, 24) as usize);
 }

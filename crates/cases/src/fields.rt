@@ -1,5 +1,5 @@
-// The fields of a payload. A byte string is its length as four bytes, then its bytes.
-use print::text;
+// What every kind shares in reading its payload. A byte string is its length as four bytes, then its bytes.
+use printing::text;
 ghost use Prim.Native.Nat.{_+_, _≤_};
 ghost use lib.ListN.{length};
 
@@ -13,5 +13,5 @@ pub fn refuse(kind: &[u8]) {
 pub fn ends(payload: &[u8], at: usize) -> bool
     requires { ⌜ at + 4 ≤ length (now payload) ⌝ }
 {
-    little::u32_at(payload, at) as usize == payload.len() - at - 4
+    endian::u32_at(payload, at) as usize == payload.len() - at - 4
 }

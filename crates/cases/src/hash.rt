@@ -1,4 +1,4 @@
-// FNV-1a, 32 bits.
+// A hash, so that a line shows every byte of a buffer: FNV-1a, 32 bits.
 const START: u32 = 2166136261;
 
 const PRIME: u64 = 16777619;

@@ -1,30 +1,36 @@
-// L: room, input. The table has five numbers more than its room asks, and held EE in each byte.
+// Cases of the listing. L: room, input. The table has the numbers that its room asks, and some more, too few for an entry; each byte of it
+// held EE. T: room, input, and no table.
 use crate::fields::ends;
 use crate::fields::refuse;
 use crate::hash;
+use answer::Outcome;
 use entry::Entry;
-use print::text;
+use printing::text;
 ghost use mathlib.Core.Path.{_≡_};
 ghost use Prim.Native.Nat.{_≤_};
 ghost use lib.ListN.{length};
 
-// The largest room: its table has 6,661 numbers.
+// The largest room of a table, which then has at most 6,668 numbers.
 const ROOM: u32 = 512;
 
+fn answered(kind: &[u8], o: Outcome) {
+    let told = o.told();
+    text(kind);
+    printing::number(told.number as u64);
+    printing::number(told.place as u64);
+    printing::number(told.count as u64);
+}
+
 fn listing_into(input: &[u8], table: &mut [u32]) {
-    let a = listing::list(input, table);
-    text(b"L");
-    print::number(a.number() as u64);
-    print::number(a.place() as u64);
-    print::number(a.count() as u64);
-    print::number(hash::of_numbers(table) as u64);
+    answered(b"L", listing::list(input, table));
+    printing::number(hash::of_numbers(table) as u64);
     text(b"\n");
 }
 
-fn table() -> [u32; 6661]
-    ensures { λ r. ⌜ 6661 ≡ length r ⌝ }
+fn table() -> [u32; 6668]
+    ensures { λ r. ⌜ 6668 ≡ length r ⌝ }
 {
-    [4008636142; 6661]
+    [4008636142; 6668]
 }
 
 fn lent(input: &[u8], room: u32) {
@@ -32,7 +38,7 @@ fn lent(input: &[u8], room: u32) {
         refuse(b"L");
         return;
     }
-    let size = room as usize * Entry::SIZE + 5;
+    let size = room as usize * Entry::SIZE + input.len() % Entry::SIZE;
     let mut numbers = table();
     listing_into(input, &mut numbers[..size]);
 }
@@ -40,7 +46,7 @@ fn lent(input: &[u8], room: u32) {
 fn fields(payload: &[u8])
     requires { ⌜ 8 ≤ length (now payload) ⌝ }
 {
-    lent(&payload[8..], little::u32_at(payload, 0));
+    lent(&payload[8..], endian::u32_at(payload, 0));
 }
 
 pub fn listing(payload: &[u8]) {
@@ -49,4 +55,20 @@ pub fn listing(payload: &[u8]) {
         return;
     }
     refuse(b"L");
+}
+
+fn count_fields(payload: &[u8])
+    requires { ⌜ 8 ≤ length (now payload) ⌝ }
+{
+    let room = endian::u32_at(payload, 0) as usize;
+    answered(b"T", listing::count(&payload[8..], room));
+    text(b"\n");
+}
+
+pub fn count(payload: &[u8]) {
+    if payload.len() >= 8 && ends(payload, 4) {
+        count_fields(payload);
+        return;
+    }
+    refuse(b"T");
 }

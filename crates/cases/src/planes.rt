@@ -1,10 +1,10 @@
-// P: start, stored, plane, code, destination, input. U: plane, destination, stream. K: destination, plane. The destination held EE in each
-// byte.
+// Cases of the plane reader, the packet reader and the packer. P: start, stored, plane, code, destination, input. U: plane, destination,
+// stream. K: destination, plane. The destination held EE in each byte.
 use crate::fields::ends;
 use crate::fields::refuse;
 use crate::hash;
-use packet::PlaneAnswer;
-use print::text;
+use packet::Plane;
+use printing::text;
 ghost use mathlib.Core.Path.{_≡_};
 ghost use Prim.Native.Nat.{_≤_};
 ghost use lib.ListN.{length};
@@ -18,18 +18,18 @@ fn held() -> [u8; 20000]
     [238; 20000]
 }
 
-fn plane_line(kind: &[u8], a: PlaneAnswer, dest: &[u8]) {
+fn plane_line(kind: &[u8], a: Plane, dest: &[u8]) {
     text(kind);
-    print::number(a.number() as u64);
-    print::number(a.place() as u64);
-    print::number(a.bytes() as u64);
-    print::number(hash::of_bytes(dest) as u64);
+    printing::number(a.number as u64);
+    printing::number(a.place as u64);
+    printing::number(a.bytes as u64);
+    printing::number(hash::of_bytes(dest) as u64);
     text(b"\n");
 }
 
 fn plane_into(input: &[u8], start: usize, stored: usize, plane: usize, code: u32, dest: &mut [u8]) {
     let a = packet::read_plane(input, start, stored, plane, code, dest);
-    plane_line(b"P", a, dest);
+    plane_line(b"P", a.told(), dest);
 }
 
 fn plane_lent(
@@ -54,11 +54,11 @@ fn plane_fields(payload: &[u8])
 {
     plane_lent(
         &payload[36..],
-        little::u64_at(payload, 0) as usize,
-        little::u64_at(payload, 8) as usize,
-        little::u64_at(payload, 16) as usize,
-        little::u32_at(payload, 24),
-        little::u32_at(payload, 28),
+        endian::u64_at(payload, 0) as usize,
+        endian::u64_at(payload, 8) as usize,
+        endian::u64_at(payload, 16) as usize,
+        endian::u32_at(payload, 24),
+        endian::u32_at(payload, 28),
     );
 }
 
@@ -72,7 +72,7 @@ pub fn plane(payload: &[u8]) {
 
 fn packets_into(stream: &[u8], plane: usize, dest: &mut [u8]) {
     let a = packet::unpack(stream, dest, plane);
-    plane_line(b"U", a, dest);
+    plane_line(b"U", a.told(), dest);
 }
 
 fn packets_lent(stream: &[u8], plane: usize, destination: u32) {
@@ -90,8 +90,8 @@ fn packets_fields(payload: &[u8])
 {
     packets_lent(
         &payload[16..],
-        little::u64_at(payload, 0) as usize,
-        little::u32_at(payload, 8),
+        endian::u64_at(payload, 0) as usize,
+        endian::u32_at(payload, 8),
     );
 }
 
@@ -104,11 +104,11 @@ pub fn packets(payload: &[u8]) {
 }
 
 fn pack_into(plane: &[u8], dest: &mut [u8]) {
-    let a = packet::pack(plane, dest);
+    let a = packer::pack(plane, dest).told();
     text(b"K");
-    print::number(a.number() as u64);
-    print::number(a.length() as u64);
-    print::number(hash::of_bytes(dest) as u64);
+    printing::number(a.number as u64);
+    printing::number(a.length as u64);
+    printing::number(hash::of_bytes(dest) as u64);
     text(b"\n");
 }
 
@@ -125,7 +125,7 @@ fn pack_lent(plane: &[u8], destination: u32) {
 fn pack_fields(payload: &[u8])
     requires { ⌜ 8 ≤ length (now payload) ⌝ }
 {
-    pack_lent(&payload[8..], little::u32_at(payload, 0));
+    pack_lent(&payload[8..], endian::u32_at(payload, 0));
 }
 
 pub fn pack(payload: &[u8]) {

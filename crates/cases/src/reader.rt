@@ -1,4 +1,4 @@
-// Case by case, to the end of the input.
+// Reads standard input case by case, to its end, and hands each payload to its kind.
 use crate::bitmaps;
 use crate::fields::refuse;
 use crate::listed;
@@ -13,6 +13,7 @@ const CASES: u64 = 1000000000000;
 fn answer(kind: u8, payload: &[u8]) {
     match kind {
         b'L' => listed::listing(payload),
+        b'T' => listed::count(payload),
         b'P' => planes::plane(payload),
         b'U' => planes::packets(payload),
         b'K' => planes::pack(payload),
@@ -28,7 +29,7 @@ fn answer(kind: u8, payload: &[u8]) {
 }
 
 fn length_of(head: &[u8; 5]) -> usize {
-    little::u32_at(head, 1) as usize
+    endian::u32_at(head, 1) as usize
 }
 
 fn kind_of(head: &[u8; 5]) -> u8 {

@@ -1,8 +1,9 @@
-// I: two rectangles. D: a resolution's value, as its bits, and its metric.
+// Cases of the calls without a buffer. I: two rectangles. D: a resolution's value, as its bits, and its metric.
+use crate::facts;
 use crate::fields::refuse;
-use chunk::resolution::Density;
-use chunk::resolution::Resolution;
-use print::text;
+use attributes::resolution::Density;
+use attributes::resolution::Resolution;
+use printing::text;
 use rect::Rect;
 
 pub fn intersection(payload: &[u8]) {
@@ -12,7 +13,7 @@ pub fn intersection(payload: &[u8]) {
     }
     let r = rect::intersect(Rect::decode(payload, 0), Rect::decode(payload, 16));
     text(b"I");
-    tell::corners(r);
+    facts::corners(r);
     text(b"\n");
 }
 
@@ -29,7 +30,7 @@ fn dots_line(d: Density) {
         Density::Absent => text(b"D 0 0\n"),
         Density::Dots(x) => {
             text(b"D 1");
-            print::number(bits_of(x));
+            printing::number(bits_of(x));
             text(b"\n");
         }
     }
@@ -41,8 +42,8 @@ pub fn dots(payload: &[u8]) {
         return;
     }
     let r = Resolution {
-        value: little::double_of(little::u64_at(payload, 0)),
-        metric: little::u8_at(payload, 8),
+        value: endian::double_of(endian::u64_at(payload, 0)),
+        metric: endian::u8_at(payload, 8),
     };
     dots_line(r.per_centimetre());
 }

@@ -1,38 +1,73 @@
-// V: room, ramp, input. F: room, input. Y and N: room, layer, input. A ramp is its length: its bytes are the caller's.
+// Cases of the views. V: room, ramp, input. F: room, input. Y and N: room, layer, input. A ramp is so many bytes EE. A part of a slice is
+// shown in numbers, and then by itself, with its number and a hash.
+use crate::facts;
 use crate::fields::ends;
 use crate::fields::refuse;
 use crate::hash;
 use chunk::layer_information::LayerChunk;
-use print::text;
+use printing::text;
 use view::Part;
+ghost use mathlib.Core.Path.{_≡_};
 ghost use Prim.Native.Nat.{_≤_};
 ghost use lib.ListN.{length};
 
+// The longest ramp.
+const RAMP: u32 = 2048;
+
 fn numbered(kind: &[u8], number: u32) {
     text(kind);
-    print::number(number as u64);
+    printing::number(number as u64);
 }
 
 fn placed(p: Part) {
-    print::number(p.start as u64);
-    print::number(p.length as u64);
+    printing::number(p.start as u64);
+    printing::number(p.length as u64);
+}
+
+fn shown(number: u32, part: &[u8]) {
+    printing::number(number as u64);
+    printing::number(hash::of_bytes(part) as u64);
     text(b"\n");
 }
 
-fn palette_line(p: Part) {
+fn palette_shown<'a, 'b: 'a>(input: &'a [u8], room: usize, ramp: &'b [u8]) {
+    let mut number = 99;
+    let part = view::palette(input, room, ramp, &mut number);
+    shown(number, part);
+}
+
+fn palette_of<'a>(input: &'a [u8], room: usize, ramp: &'a [u8]) {
+    let p = view::palette_part(input, room, ramp.len());
     numbered(b"V", p.number);
-    print::number(p.which as u64);
+    printing::number(p.which as u64);
     placed(p);
+    palette_shown(input, room, ramp);
+}
+
+fn grey() -> [u8; 2048]
+    ensures { λ r. ⌜ 2048 ≡ length r ⌝ }
+{
+    [238; 2048]
+}
+
+fn palette_lent(input: &[u8], room: usize, ramp: u32) {
+    if RAMP < ramp {
+        refuse(b"V");
+        return;
+    }
+    let size = ramp as usize;
+    let bytes = grey();
+    palette_of(input, room, &bytes[..size]);
 }
 
 fn palette_fields(payload: &[u8])
     requires { ⌜ 12 ≤ length (now payload) ⌝ }
 {
-    palette_line(view::palette_part(
+    palette_lent(
         &payload[12..],
-        little::u32_at(payload, 0) as usize,
-        little::u32_at(payload, 4) as usize,
-    ));
+        endian::u32_at(payload, 0) as usize,
+        endian::u32_at(payload, 4),
+    );
 }
 
 pub fn palette(payload: &[u8]) {
@@ -46,9 +81,9 @@ pub fn palette(payload: &[u8]) {
 fn image_fields(payload: &[u8])
     requires { ⌜ 8 ≤ length (now payload) ⌝ }
 {
-    let f = view::image_facts(&payload[8..], little::u32_at(payload, 0) as usize);
+    let f = view::image_facts(&payload[8..], endian::u32_at(payload, 0) as usize);
     numbered(b"F", f.number);
-    tell::image(f.image);
+    facts::image(f.image);
     text(b"\n");
 }
 
@@ -71,9 +106,9 @@ fn ranges_hash(l: LayerChunk) -> u32 {
 }
 
 fn layer_line(l: LayerChunk) {
-    tell::layer(l);
-    print::number(name_hash(l) as u64);
-    print::number(ranges_hash(l) as u64);
+    facts::layer(l);
+    printing::number(name_hash(l) as u64);
+    printing::number(ranges_hash(l) as u64);
     text(b"\n");
 }
 
@@ -82,8 +117,8 @@ fn layer_fields(payload: &[u8])
 {
     let f = view::layer_facts(
         &payload[12..],
-        little::u32_at(payload, 0) as usize,
-        little::u32_at(payload, 4),
+        endian::u32_at(payload, 0) as usize,
+        endian::u32_at(payload, 4),
     );
     numbered(b"Y", f.number);
     layer_line(f.layer);
@@ -97,19 +132,27 @@ pub fn layer_facts(payload: &[u8]) {
     refuse(b"Y");
 }
 
-fn name_line(p: Part) {
+fn name_shown(input: &[u8], room: usize, k: u32) {
+    let mut number = 99;
+    let part = view::name(input, room, k, &mut number);
+    shown(number, part);
+}
+
+fn name_of(input: &[u8], room: usize, k: u32) {
+    let p = view::name_part(input, room, k);
     numbered(b"N", p.number);
     placed(p);
+    name_shown(input, room, k);
 }
 
 fn name_fields(payload: &[u8])
     requires { ⌜ 12 ≤ length (now payload) ⌝ }
 {
-    name_line(view::name_part(
+    name_of(
         &payload[12..],
-        little::u32_at(payload, 0) as usize,
-        little::u32_at(payload, 4),
-    ));
+        endian::u32_at(payload, 0) as usize,
+        endian::u32_at(payload, 4),
+    );
 }
 
 pub fn layer_name(payload: &[u8]) {

@@ -2,11 +2,15 @@
 use Prim.Native.Nat.{ℕ}
 use mathlib.Core.List.{List, [], _∷_}
 use lib.Dec.{eqb, leb}
-use Rattle.little.specs.Number.{numberAt}
+use Rattle.endian.specs.Number.{numberAt}
 use Rattle.laws.specs.Lists.{part}
-use Rattle.chunk.specs.declared.fault.Fault.{Fault}
+use Rattle.attributes.specs.declared.fault.Fault.{Fault}
 use Rattle.chunk.specs.declared.channel_information.ChannelChunk.{ChannelChunk}
-use Rattle.chunk.specs.Fault.{Field, field, earliest}
+use Rattle.attributes.specs.Fault.{Field, field, earliest}
+
+-- in bytes
+abbrev pub channelSize : ℕ
+channelSize = 12
 
 -- the chunk of its own bytes
 unfoldable pub channelOf : List ℕ → ChannelChunk
@@ -18,7 +22,7 @@ channelOf s = record {
 }
 
 abbrev pub channelAt : List ℕ → ℕ → ChannelChunk
-channelAt s at = channelOf (part s at 12)
+channelAt s at = channelOf (part s at channelSize)
 
 -- the codes come before the plane length
 abbrev pub codesFields : ChannelChunk → List Field

@@ -3,18 +3,22 @@ use Prim.Native.Nat.{ℕ, _^_}
 use mathlib.Core.Bool.{_&&_}
 use mathlib.Core.List.{List, [], _∷_}
 use lib.Dec.{leb}
-use Rattle.little.specs.Number.{numberAt}
+use Rattle.endian.specs.Number.{numberAt}
 use Rattle.laws.specs.Lists.{part}
-use Rattle.chunk.specs.declared.fault.Fault.{Fault}
+use Rattle.attributes.specs.declared.fault.Fault.{Fault}
 use Rattle.chunk.specs.declared.color_palette.PaletteChunk.{PaletteChunk}
-use Rattle.chunk.specs.Fault.{Field, field, earliest}
+use Rattle.attributes.specs.Fault.{Field, field, earliest}
+
+-- in bytes
+abbrev pub paletteSize : ℕ
+paletteSize = 4
 
 -- the chunk of its own bytes
 unfoldable pub paletteOf : List ℕ → PaletteChunk
 paletteOf s = record { count = numberAt 4 s 0 }
 
 abbrev pub paletteAt : List ℕ → ℕ → PaletteChunk
-paletteAt s at = paletteOf (part s at 4)
+paletteAt s at = paletteOf (part s at paletteSize)
 
 -- 1 to 2 to the depth
 abbrev pub paletteFields : ℕ → PaletteChunk → List Field

@@ -3,18 +3,22 @@ use Prim.Native.Nat.{ℕ, _+_}
 use mathlib.Core.Bool.{Bool, _&&_, not}
 use mathlib.Core.List.{List, [], _∷_}
 use lib.Dec.{eqb, leb}
-use Rattle.little.specs.Number.{numberAt}
+use Rattle.endian.specs.Number.{numberAt}
 use Rattle.laws.specs.Lists.{part}
 use Rattle.rect.specs.Rect.{isProper, isSaved}
-use Rattle.chunk.specs.declared.fault.Fault.{Fault}
+use Rattle.attributes.specs.declared.fault.Fault.{Fault}
 use Rattle.chunk.specs.declared.layer_information.LayerChunk.{LayerChunk}
 use Rattle.chunk.specs.Area.{areaAt}
-use Rattle.chunk.specs.Depth.{colourChannels}
-use Rattle.chunk.specs.Fault.{Field, field, earliest}
+use Rattle.attributes.specs.Depth.{colourChannels}
+use Rattle.attributes.specs.Fault.{Field, field, earliest}
 
 -- off (zero) or on
 abbrev pub flagAt : List ℕ → ℕ → Bool
 flagAt s at = not (eqb (numberAt 1 s at) 0)
+
+-- in bytes
+abbrev pub layerSize : ℕ
+layerSize = 375
 
 -- the chunk of its own bytes
 unfoldable pub layerOf : List ℕ → LayerChunk
@@ -38,7 +42,7 @@ layerOf s = record {
 }
 
 abbrev pub layerAt : List ℕ → ℕ → LayerChunk
-layerAt s at = layerOf (part s at 375)
+layerAt s at = layerOf (part s at layerSize)
 
 -- in an image of this depth; channels are c + b - 1
 abbrev pub layerFields : ℕ → LayerChunk → List Field

@@ -1,5 +1,5 @@
 // The channel information chunk (document 000, section 4.6).
-use crate::fault::Fault;
+use attributes::fault::Fault;
 ghost use mathlib.Core.Path.{_≡_};
 ghost use Prim.Native.Nat.{_+_, _≤_};
 ghost use lib.ListN.{length};
@@ -29,10 +29,10 @@ impl ChannelChunk {
         ensures { λ r. ⌜ r ≡ channelOf (now (chunk .entry)) ⌝ }
     {
         ChannelChunk {
-            stored: little::u32_at(chunk, 0),
-            plane: little::u32_at(chunk, 4),
-            bitmap: little::u16_at(chunk, 8),
-            channel: little::u16_at(chunk, 10),
+            stored: endian::u32_at(chunk, 0),
+            plane: endian::u32_at(chunk, 4),
+            bitmap: endian::u16_at(chunk, 8),
+            channel: endian::u16_at(chunk, 10),
         }
     }
 

@@ -1,6 +1,6 @@
 // The color palette information chunk (document 000, section 4.5).
-use crate::depth;
-use crate::fault::Fault;
+use attributes::depth;
+use attributes::fault::Fault;
 ghost use mathlib.Core.Path.{_≡_};
 ghost use Prim.Native.Nat.{_+_, _≤_};
 ghost use lib.ListN.{length};
@@ -26,7 +26,7 @@ impl PaletteChunk {
         ensures { λ r. ⌜ r ≡ paletteOf (now (chunk .entry)) ⌝ }
     {
         PaletteChunk {
-            count: little::u32_at(chunk, 0),
+            count: endian::u32_at(chunk, 0),
         }
     }
 

@@ -1,14 +1,14 @@
 // The layer information chunk (document 000, section 5.9).
 use crate::area::Area;
-use crate::array;
-use crate::depth;
-use crate::fault::Fault;
+use attributes::depth;
+use attributes::fault::Fault;
+use headers::array;
 ghost use mathlib.Core.Path.{_≡_};
 ghost use Prim.Native.Nat.{_+_, _≤_};
 ghost use lib.Dec.{eqb};
 ghost use lib.ListN.{length};
 ghost use Rattle.laws.specs.Lists.{part};
-ghost use Rattle.chunk.specs.Depth.{colourChannels};
+ghost use Rattle.attributes.specs.Depth.{colourChannels};
 ghost use Rattle.chunk.specs.LayerInformation.{flagAt, layerOf, layerAt, layerFault};
 
 #[repr(C)]
@@ -51,21 +51,21 @@ impl LayerChunk {
     {
         LayerChunk {
             name: name_at(chunk, 0),
-            kind: little::u8_at(chunk, 256),
+            kind: endian::u8_at(chunk, 256),
             image: Area::decode(chunk, 257),
-            opacity: little::u8_at(chunk, 289),
-            blending: little::u8_at(chunk, 290),
+            opacity: endian::u8_at(chunk, 289),
+            blending: endian::u8_at(chunk, 290),
             visible: flag_at(chunk, 291),
             protected: flag_at(chunk, 292),
-            group: little::u8_at(chunk, 293),
+            group: endian::u8_at(chunk, 293),
             mask: Area::decode(chunk, 294),
             linked: flag_at(chunk, 326),
             disabled: flag_at(chunk, 327),
             inverted: flag_at(chunk, 328),
-            blends: little::u16_at(chunk, 329),
+            blends: endian::u16_at(chunk, 329),
             ranges: ranges_at(chunk, 331),
-            bitmaps: little::u16_at(chunk, 371),
-            channels: little::u16_at(chunk, 373),
+            bitmaps: endian::u16_at(chunk, 371),
+            channels: endian::u16_at(chunk, 373),
         }
     }
 
@@ -99,7 +99,7 @@ fn flag_at(file: &[u8], at: usize) -> bool
     requires { ⌜ at + 1 ≤ length (now file) ⌝ }
     ensures { λ r. ⌜ r ≡ flagAt (now (file .entry)) at ⌝ }
 {
-    little::u8_at(file, at) != 0
+    endian::u8_at(file, at) != 0
 }
 
 fn name_at(file: &[u8], at: usize) -> [u8; 256]

@@ -1,37 +1,61 @@
--- An entry's thirteen numbers, in the table's order, and where a table keeps them (document 01, "The table").
+-- An entry by what it tells of its block, its thirteen numbers in the table's order, and where a table keeps them (document 01, "The table").
 use Prim.Native.Nat.{ℕ, _+_, _*_, _/_}
 use mathlib.Core.List.{List, [], _∷_, _++_}
 use lib.Dec.{ltb}
 use lib.ListN.{length, getD}
 use Rattle.laws.specs.Choice.{pick}
 use Rattle.laws.specs.Lists.{over}
+use Rattle.rect.specs.Rows.{noSize}
+use Rattle.entry.specs.declared.Block.{Block}
+use Rattle.entry.specs.declared.Code.{Code}
+use Rattle.entry.specs.declared.Content.{Content}
 use Rattle.entry.specs.declared.Entry.{Entry}
 
 -- the numbers of an entry
 abbrev pub size : ℕ
 size = 13
 
+-- ### An entry, by what it tells. A part without meaning for its kind is zeros
+
+-- id, skipped, level, header place, bytes owned
+abbrev pub block : ℕ → ℕ → ℕ → ℕ → ℕ → Block
+block id skipped level place owned = record { id = id; skipped = skipped; level = level; place = place; owned = owned }
+
+abbrev pub code : ℕ → ℕ → Code
+code bitmap channel = record { bitmap = bitmap; channel = channel }
+
+abbrev pub content : ℕ → ℕ → Content
+content start stored = record { start = start; stored = stored }
+
+-- a block that tells nothing more; one with a rank; one with content
+abbrev pub plain : Block → Entry
+plain b = record { block = b; layer = 0; code = code 0 0; content = content 0 0; size = noSize }
+
+abbrev pub ranked : Block → ℕ → Entry
+ranked b n = record { block = b; layer = n; code = code 0 0; content = content 0 0; size = noSize }
+
+abbrev pub filled : Block → Content → Entry
+filled b c = record { block = b; layer = 0; code = code 0 0; content = c; size = noSize }
+
+-- no entry
+abbrev pub nowhere : Entry
+nowhere = plain (block 0 0 0 0 0)
+
+-- ### In a table
+
 abbrev pub numbersOf : Entry → List ℕ
 numbersOf e =
-    e .id ∷ e .skipped ∷ e .level ∷ e .place ∷ e .owned ∷ e .layer ∷ e .bitmap ∷ e .channel ∷ e .start ∷ e .stored
-    ∷ e .width ∷ e .height ∷ e .plane ∷ []
+    e .block .id ∷ e .block .skipped ∷ e .block .level ∷ e .block .place ∷ e .block .owned ∷ e .layer ∷ e .code .bitmap ∷ e .code .channel
+    ∷ e .content .start ∷ e .content .stored ∷ e .size .width ∷ e .size .height ∷ e .size .plane ∷ []
 
 -- the entry whose thirteen numbers stand in a table from a place on
 abbrev pub entryAt : List ℕ → ℕ → Entry
 entryAt t at = record {
-  id = getD t at 0;
-  skipped = getD t (at + 1) 0;
-  level = getD t (at + 2) 0;
-  place = getD t (at + 3) 0;
-  owned = getD t (at + 4) 0;
+  block = block (getD t at 0) (getD t (at + 1) 0) (getD t (at + 2) 0) (getD t (at + 3) 0) (getD t (at + 4) 0);
   layer = getD t (at + 5) 0;
-  bitmap = getD t (at + 6) 0;
-  channel = getD t (at + 7) 0;
-  start = getD t (at + 8) 0;
-  stored = getD t (at + 9) 0;
-  width = getD t (at + 10) 0;
-  height = getD t (at + 11) 0;
-  plane = getD t (at + 12) 0;
+  code = code (getD t (at + 6) 0) (getD t (at + 7) 0);
+  content = content (getD t (at + 8) 0) (getD t (at + 9) 0);
+  size = record { width = getD t (at + 10) 0; height = getD t (at + 11) 0; plane = getD t (at + 12) 0 };
 }
 
 -- the numbers of entries, one after another

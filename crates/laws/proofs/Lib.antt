@@ -6,6 +6,7 @@ pub mod Part
 pub mod Indexed
 pub mod Written
 pub mod Stored
+pub mod Filter
 pub mod Front
 pub mod All
 pub mod Along

@@ -1,7 +1,9 @@
--- Parts of a list, a list that is written from a place on, and one that is changed element by element.
+-- Parts of a list, its elements that pass a test, a list that is written from a place on, and one that is changed element by element.
 use Prim.Native.Nat.{ℕ, suc, _+_}
+use mathlib.Core.Bool.{Bool}
 use mathlib.Core.List.{List, [], _∷_, _++_}
 use lib.ListN.{length, take, drop}
+use Rattle.laws.specs.Choice.{pick}
 
 module _ {A : Type 0} where
   -- n elements of l from a place on
@@ -16,3 +18,8 @@ module _ {A : Type 0} where
   unfoldable pub indexed : (ℕ → A → A) → ℕ → List A → List A
   indexed f k [] = []
   indexed f k (x ∷ xs) = f k x ∷ indexed f (suc k) xs
+
+  -- the elements that pass a test, in their order
+  unfoldable pub filter : (A → Bool) → List A → List A
+  filter f [] = []
+  filter f (x ∷ xs) = pick (f x) (x ∷ filter f xs) (filter f xs)

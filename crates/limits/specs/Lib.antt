@@ -1,1 +1,2 @@
+-- The limits, by name.
 pub mod Limits

@@ -1,78 +1,100 @@
--- The file header: what is listed where it is refused, and what more input makes of it.
-use mathlib.Core.Path.{_≡_, refl, sym, ap, subst, _∙_}
+-- The file header comes before any block: what is listed behind one that passes, that nothing is listed behind any other, and that more
+-- input changes it only where it was not all there. So no other law has to know its answers.
+use mathlib.Core.Path.{_≡_, refl, sym, ap, _∙_}
 use mathlib.Core.Logic.{_⊎_, inl, inr}
-use mathlib.Core.Bool.{Bool}
+use mathlib.Core.Bool.{Bool, true, false}
 use mathlib.Core.List.{List, [], _++_}
-use Prim.Native.Nat.{ℕ, suc, _≤_, _<_}
+use Prim.Native.Nat.{ℕ, _≤_, _<_}
 use native.Mathlib.Omega.{arith}
-use borrow.Author.Tests.{le-ltb, lt-ltb}
+use borrow.Author.Tests.{le-ltb, lt-ltb, ltb-false}
 use lib.ListN.{length, length-append}
 use Rattle.limits.specs.Limits.{inputLimit}
 use Rattle.laws.specs.Choice.{pick}
-use Rattle.laws.specs.Lists.{part}
-use Rattle.laws.proofs.Choice.{pick-yes, pick-no}
+use Rattle.laws.proofs.Choice.{pick-yes, pick-no, pick-ind}
 use Rattle.laws.proofs.Part.{part-longer}
-use Rattle.laws.proofs.Tests.{less-or-not}
-use Rattle.walk.specs.Walk.{ended}
+use Rattle.laws.proofs.Tests.{never, less-or-not}
+use Rattle.answer.specs.declared.Refusal.the-variants.{EndsTooSoon}
+use Rattle.answer.specs.declared.Answer.the-variants.{Accepted, WrongSignature, WrongVersion, Refused}
+use Rattle.answer.specs.declared.Outcome.{Outcome}
+use Rattle.answer.specs.Answers.{isAccepted}
+use Rattle.answer.proofs.Names.{accepted-yes}
+use Rattle.walk.specs.Walk.{run}
+use Rattle.walk.specs.Room.{Listed, cut}
 use Rattle.walk.proofs.Cut.{plain, cut-ended}
-use Rattle.walk.specs.Room as rooms
-use Rattle.walk.specs.Room.{cut}
-use Rattle.chunk.specs.FileHeader.{fileHeaderOf, isSigned, isVersion}
-use Rattle.block.specs.State.{start}
-use Rattle.listing.specs.declared.head.Head.{Head}
-use Rattle.listing.specs.declared.head.Head.the-variants.{Good, OverLimit, EndsTooSoon, WrongSignature, WrongVersion}
-use Rattle.listing.specs.Listing.{headOf, behind, listed}
-use Rattle.listing.proofs.Leaves.{behind-head}
+use Rattle.headers.specs.declared.file_header.FileHeader.{FileHeader}
+use Rattle.headers.specs.FileHeader.{fileHeaderSize, versionPlace, fileHeaderOf, fileHeaderAt, isSigned, isVersion}
+use Rattle.memory.specs.Parent.{main}
+use Rattle.memory.specs.State.{start}
+use Rattle.block.specs.Step.{stepAt}
+use Rattle.listing.specs.Listing.{headAnswer, headOf, beyond, listing, listed}
 
--- what the 36 bytes say, once they are there
-judged : (s : List ℕ) → length s ≤ inputLimit → 36 ≤ length s
-    → let h = fileHeaderOf (part s 0 36) in headOf s ≡ pick (isSigned h) (pick (isVersion h) Good WrongVersion) WrongSignature
+-- what the header's bytes say, once they are there
+abbrev said : FileHeader → Outcome
+said h =
+    pick (isSigned h) (pick (isVersion h) (headAnswer Accepted fileHeaderSize) (headAnswer WrongVersion versionPlace)) (headAnswer WrongSignature 0)
+
+judged : (s : List ℕ) → length s ≤ inputLimit → fileHeaderSize ≤ length s → headOf s ≡ said (fileHeaderAt s 0)
 unfolding headOf
-judged s small there = pick-no _ _ _ (le-ltb inputLimit (length s) small) ∙ pick-no _ _ _ (le-ltb (length s) 36 there)
+judged s small there = pick-no _ _ _ (le-ltb inputLimit (length s) small) ∙ pick-no _ _ _ (le-ltb (length s) fileHeaderSize there)
 
 -- on more input the header is the same, unless it was not all there
 pub head-longer :
-    (s t : List ℕ) → length (s ++ t) ≤ inputLimit → ((headOf s ≡ EndsTooSoon) × (length s < 36)) ⊎ (headOf s ≡ headOf (s ++ t))
+    (s t : List ℕ) → length (s ++ t) ≤ inputLimit
+    → ((headOf s ≡ headAnswer (Refused EndsTooSoon) 0) × (length s < fileHeaderSize)) ⊎ (headOf s ≡ headOf (s ++ t))
 unfolding headOf
-head-longer s t small = by (less-or-not (length s) 36)
+head-longer s t small = by (less-or-not (length s) fileHeaderSize)
   where
     within : length s ≤ inputLimit
     within = omega (arith, length-append s t)
 
-    by : (length s < 36) ⊎ (36 ≤ length s) → ((headOf s ≡ EndsTooSoon) × (length s < 36)) ⊎ (headOf s ≡ headOf (s ++ t))
-    by (inl short) = inl (pick-no _ _ _ (le-ltb inputLimit (length s) within) ∙ pick-yes _ _ _ (lt-ltb (length s) 36 short), short)
+    by :
+        (length s < fileHeaderSize) ⊎ (fileHeaderSize ≤ length s)
+        → ((headOf s ≡ headAnswer (Refused EndsTooSoon) 0) × (length s < fileHeaderSize)) ⊎ (headOf s ≡ headOf (s ++ t))
+    by (inl short) = inl (pick-no _ _ _ (le-ltb inputLimit (length s) within) ∙ pick-yes _ _ _ (lt-ltb (length s) fileHeaderSize short), short)
     by (inr there) =
         inr
         (judged s within there
-        ∙ ap (λ (b : List ℕ). let h = fileHeaderOf b in pick (isSigned h) (pick (isVersion h) Good WrongVersion) WrongSignature) (sym (part-longer s t 0 36 there))
+        ∙ ap (λ (b : List ℕ). said (fileHeaderOf b)) (sym (part-longer s t 0 fileHeaderSize there))
         ∙ sym (judged (s ++ t) small (omega (arith, length-append s t))))
 
--- where the header is refused nothing is listed, and the answer is the header's
-pub refused-head : (s : List ℕ) (room : ℕ) {h : Head} (n p : ℕ) → headOf s ≡ h → behind s h ≡ ended n p start → listed s room ≡ plain n p []
-refused-head s room n p e is = ap (cut room) (behind-head s e ∙ is) ∙ cut-ended room n p start
+-- no entry is counted before any block
+abbrev Uncounted : Outcome → Type 0
+Uncounted h = h .count ≡ 0
 
-pub refused-empty : (s : List ℕ) (room : ℕ) → (headOf s ≡ Good → ⊥) → listed s room .entries ≡ []
-refused-empty s room bad = by (headOf s) refl
-  where
-    by : (h : Head) → headOf s ≡ h → listed s room .entries ≡ []
-    by Good e = absurd (bad e)
-    by OverLimit e = ap (λ (r : rooms.Answer). r .entries) (refused-head s room 1 0 e refl)
-    by EndsTooSoon e = ap (λ (r : rooms.Answer). r .entries) (refused-head s room 2 0 e refl)
-    by WrongSignature e = ap (λ (r : rooms.Answer). r .entries) (refused-head s room 3 0 e refl)
-    by WrongVersion e = ap (λ (r : rooms.Answer). r .entries) (refused-head s room 4 32 e refl)
+pub head-count : (s : List ℕ) → headOf s .count ≡ 0
+unfolding headOf
+head-count s =
+    pick-ind Uncounted _ _ _ (λ _. refl)
+    (λ _. pick-ind Uncounted _ _ _ (λ _. refl) (λ _. pick-ind Uncounted _ _ _ (λ _. pick-ind Uncounted _ _ _ (λ _. refl) (λ _. refl)) (λ _. refl)))
 
--- an accepted input has a good header
-pub accepted-good : (s : List ℕ) (room : ℕ) → listed s room .number ≡ 0 → headOf s ≡ Good
-accepted-good s room ok = by (headOf s) refl
-  where
-    never : {h : Head} (n p : ℕ) → headOf s ≡ h → behind s h ≡ ended (suc n) p start → ⊥
-    never n p e is =
-        let z : 0 ≡ suc n = sym ok ∙ ap (λ (r : rooms.Answer). r .number) (refused-head s room (suc n) p e is) in
-        omega arith
+module _ (s : List ℕ) where
+  -- ### A header that passes
 
-    by : (h : Head) → headOf s ≡ h → headOf s ≡ Good
-    by Good e = e
-    by OverLimit e = absurd (never 0 0 e refl)
-    by EndsTooSoon e = absurd (never 1 0 e refl)
-    by WrongSignature e = absurd (never 2 0 e refl)
-    by WrongVersion e = absurd (never 3 32 e refl)
+  -- it is that of an input within the limit
+  pub good-small : isAccepted (headOf s .answer) ≡ true → length s ≤ inputLimit
+  unfolding headOf
+  good-small =
+      pick-ind (λ (h : Outcome). isAccepted (h .answer) ≡ true → length s ≤ inputLimit) _ _ _ (λ _ e. never e) (λ small _. ltb-false inputLimit (length s) small)
+
+  -- the blocks are walked
+  pub behind-head : isAccepted (headOf s .answer) ≡ true → listing s ≡ run (stepAt s) (length s) start fileHeaderSize beyond main
+  unfolding listing
+  behind-head good = pick-yes _ _ _ good
+
+  -- ### Any other
+
+  -- nothing is listed, and the answer is the header's
+  pub refused-head : (room : ℕ) → isAccepted (headOf s .answer) ≡ false → listed s room ≡ plain (headOf s .answer) (headOf s .place) []
+  unfolding listing
+  refused-head room bad = ap (cut room) (pick-no _ _ _ bad) ∙ cut-ended room (headOf s .answer) (headOf s .place) start
+
+  pub refused-empty : (room : ℕ) → isAccepted (headOf s .answer) ≡ false → listed s room .entries ≡ []
+  refused-empty room bad = ap (λ (r : Listed). r .entries) (refused-head room bad)
+
+  -- an accepted input has a header that passes
+  pub accepted-good : (room : ℕ) → listed s room .answer ≡ Accepted → isAccepted (headOf s .answer) ≡ true
+  accepted-good room ok = by (isAccepted (headOf s .answer)) refl
+    where
+      by : (b : Bool) → isAccepted (headOf s .answer) ≡ b → isAccepted (headOf s .answer) ≡ true
+      by true e = e
+      by false e = accepted-yes (sym (ap (λ (r : Listed). r .answer) (refused-head room e)) ∙ ok)

@@ -1,11 +1,11 @@
--- Laws of the listing.
-pub mod Numbers
-pub mod Leaves
+-- Laws of the listing: what is asked of it, what its one walk leaves, and what holds of every listing.
+pub mod Noted
 pub mod Heads
+pub mod WalkOutcome
+pub mod Numbers
 pub mod Tiled
 pub mod Prefix
 pub mod OneOutcome
-pub mod Came
-pub mod Lately
-pub mod Underway
-pub mod Layers
+pub mod CodesRemembered
+pub mod StateMeaning
+pub mod RightEntries

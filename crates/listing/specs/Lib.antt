@@ -1,7 +1,6 @@
--- The listing: answers on paper, what is sought of the entries, where the code's walk begins, the listing itself, and what it says of layers and channels.
-pub mod Answers
-pub mod Sought
+-- The listing: the walk behind a good file header, what a view asks of it, what the code leaves; and what holds of every listing.
+pub mod Question
 pub mod Walking
 pub mod Listing
 pub mod Walks
-pub mod Layers
+pub mod Right

@@ -1,25 +1,39 @@
-// The walk: siblings are a loop that looks at one place a turn, and a block that holds blocks is entered and left again. Levels
-// remaining, then bytes left in the parent, fall. The stack is three levels deep whatever the input.
-use crate::sought::Sought;
-use block::State;
-use block::Step;
+// The walk: siblings are a loop that looks at one place a turn, and a block that holds blocks is entered and left again. Levels, then
+// bytes of the parent, fall. The stack is three levels deep whatever the input.
+use crate::question::Found;
+use crate::question::Question;
+use answer::Answer;
+use answer::Outcome;
+use kinds::Step;
+use memory::State;
 ghost use mathlib.Core.Path.{_≡_};
-ghost use Prim.Native.Nat.{_-_, _≤_, _<_, _^_};
+ghost use Prim.Native.Nat.{_-_, _<_};
 ghost use lib.ListN.{length};
-ghost use Rattle.limits.specs.Limits.{inputLimit};
 ghost use Rattle.walk.specs.Walk.{run};
 ghost use Rattle.walk.specs.Room.{Walked};
-ghost use Rattle.block.specs.Step.{main, stepAt};
-ghost use Rattle.listing.specs.Sought.{kept, put};
-ghost use Rattle.listing.specs.Walking.{out, Ready};
+ghost use Rattle.block.specs.Step.{stepAt};
+ghost use Rattle.listing.specs.Question.{kept, put};
+ghost use Rattle.listing.specs.Walking.{Ready};
 
-// What a walk answers: number, place, the entries listed in all, the state that it ended in, and what was sought.
+// What a walk leaves: its answer, the state that it ended in, and what was asked of the entries.
 pub struct Out {
-    pub number: u32,
-    pub place: usize,
-    pub count: usize,
+    pub outcome: Outcome,
     pub state: State,
-    pub sought: Sought,
+    pub found: Found,
+}
+
+fn leave(answer: Answer, place: usize, count: usize, state: State, found: Found) -> Out
+    ensures { λ r. ⌜ r ≡ record { outcome = record { answer = answer; place = place; count = count }; state = state; found = found } ⌝ }
+{
+    Out {
+        outcome: Outcome {
+            answer,
+            place,
+            count,
+        },
+        state,
+        found,
+    }
 }
 
 pub fn siblings(
@@ -31,36 +45,35 @@ pub fn siblings(
     room: usize,
     table: &mut [u32],
     from: usize,
-    sought: Sought,
+    question: Question,
+    known: Found,
 ) -> Out
-    requires { ⌜ Ready (now s) first end levels room from ⌝ }
-    ensures { λ r. ⌜ Walked put (run (stepAt (now (s .entry))) (length (now (s .entry))) start first end levels) room from (kept (now (table .entry)) sought) (out r) (kept (now (table .exit)) (r .sought)) ⌝ }
+    requires { ⌜ Ready (now s) first end levels room from known ⌝ }
+    ensures { λ r. ⌜ Walked (put question) (run (stepAt (now (s .entry))) (length (now (s .entry))) start first end levels) room from (kept (now (table .entry)) known) (r .outcome) (r .state) (kept (now (table .exit)) (r .found)) ⌝ }
 {
     let mut state = start;
     let mut at = first;
     let mut count = from;
-    let mut found = sought;
+    let mut found = known;
     loop {
         match block::look(s, state, at, end, levels) {
-            Step::Stop { number, place } => {
-                return Out {
-                    number,
-                    place,
-                    count,
-                    state,
-                    sought: found,
-                };
+            Step::End => {
+                return leave(Answer::Accepted, at, count, state, found);
+            }
+            Step::Stop { refusal, place } => {
+                return leave(Answer::Refused(refusal), place, count, state, found);
             }
             Step::Leaf {
                 entry,
                 next,
                 state: q,
             } => {
+                // The table is full at the header of the first entry that has no room.
                 if count == room {
-                    return full(at, count, state, found);
+                    return leave(Answer::TableFull, at, count, state, found);
                 }
                 entry::store(table, count, entry);
-                found = found.note(entry);
+                found = found.note(question, entry);
                 state = q;
                 at = next;
                 count += 1;
@@ -72,33 +85,33 @@ pub fn siblings(
                 after,
             } => {
                 if count == room {
-                    return full(at, count, state, found);
+                    return leave(Answer::TableFull, at, count, state, found);
                 }
                 entry::store(table, count, entry);
-                let noted = found.note(entry);
-                let o = enter(s, q, inside, after, levels, room, table, count + 1, noted);
-                if o.number != 0 {
+                let noted = found.note(question, entry);
+                let o = enter(
+                    s,
+                    q,
+                    inside,
+                    after,
+                    levels,
+                    room,
+                    table,
+                    count + 1,
+                    question,
+                    noted,
+                );
+                let outcome = o.outcome;
+                let answer = outcome.answer;
+                if !answer.accepted() {
                     return o;
                 }
                 state = o.state;
                 at = after;
-                count = o.count;
-                found = o.sought;
+                count = outcome.count;
+                found = o.found;
             }
         }
-    }
-}
-
-// 12 at the header of the first entry that has no room.
-fn full(at: usize, count: usize, state: State, sought: Sought) -> Out
-    ensures { λ r. ⌜ r ≡ record { number = 12; place = at; count = count; state = state; sought = sought } ⌝ }
-{
-    Out {
-        number: 12,
-        place: at,
-        count,
-        state,
-        sought,
     }
 }
 
@@ -111,10 +124,22 @@ fn enter(
     room: usize,
     table: &mut [u32],
     from: usize,
-    sought: Sought,
+    question: Question,
+    known: Found,
 ) -> Out
-    requires { ⌜ (Ready (now s) first end levels room from) × (0 < levels) ⌝ }
-    ensures { λ r. ⌜ Walked put (run (stepAt (now (s .entry))) (length (now (s .entry))) start first end (levels - 1)) room from (kept (now (table .entry)) sought) (out r) (kept (now (table .exit)) (r .sought)) ⌝ }
+    requires { ⌜ (Ready (now s) first end levels room from known) × (0 < levels) ⌝ }
+    ensures { λ r. ⌜ Walked (put question) (run (stepAt (now (s .entry))) (length (now (s .entry))) start first end (levels - 1)) room from (kept (now (table .entry)) known) (r .outcome) (r .state) (kept (now (table .exit)) (r .found)) ⌝ }
 {
-    siblings(s, start, first, end, levels - 1, room, table, from, sought)
+    siblings(
+        s,
+        start,
+        first,
+        end,
+        levels - 1,
+        room,
+        table,
+        from,
+        question,
+        known,
+    )
 }

@@ -7,18 +7,15 @@ use lib.Dec.{eqb}
 use lib.ListN.{length}
 use Rattle.laws.specs.Choice.{pick}
 use Rattle.packet.specs.Stream.{Outcome, bytes, refused, meaning}
-use Rattle.packet.specs.Reading.{Paper, paper, result, verdict, laid, unpacked, planeRead}
+use Rattle.packet.specs.Reading.{paper, result, verdict, laid, unpacked, planeRead}
+use Rattle.packet.specs.declared.told.Plane.{Plane}
 use Rattle.packet.specs.declared.PlaneAnswer.{PlaneAnswer}
 use Rattle.packet.specs.declared.PlaneAnswer.the-variants.{Whole, NoRoom, Count128, Missing, TooMuch, UnknownCode, RawLength, OverLimit, Outside}
-use Rattle.packet.specs.declared.PackAnswer.{PackAnswer}
-use Rattle.packet.specs.declared.PackAnswer.the-variants as Pack
-use Rattle.packet.specs.declared.PackAnswer.the-variants.{Packed}
-use Rattle.packet.specs.Packing.{PackPaper, packPaper, packResult, packs}
 use Rattle.laws.proofs.Choice.{pick-no}
 use Rattle.laws.proofs.OneOutcome.{result-one}
 
 -- the answer that a paper tells of
-answerOf : Paper → PlaneAnswer
+answerOf : Plane → PlaneAnswer
 answerOf p =
     pick (eqb (p .number) 0) (Whole (p .place) (p .bytes))
     (pick (eqb (p .number) 20) NoRoom
@@ -42,15 +39,6 @@ answer-back RawLength = refl
 answer-back OverLimit = refl
 answer-back Outside = refl
 
-packAnswerOf : PackPaper → PackAnswer
-packAnswerOf p = pick (eqb (p .number) 0) (Packed (p .length)) (pick (eqb (p .number) 30) Pack.NoRoom Pack.OverLimit)
-
-pack-answer-back : (a : PackAnswer) → packAnswerOf (packPaper a) ≡ a
-unfolding packAnswerOf pick
-pack-answer-back (Packed n) = refl
-pack-answer-back Pack.NoRoom = refl
-pack-answer-back Pack.OverLimit = refl
-
 pub unpack-one :
     (stream : List ℕ) (plane : ℕ) (dest : List ℕ) (a b : PlaneAnswer) (x y : List ℕ)
     → result a x ≡ unpacked stream plane dest → result b y ≡ unpacked stream plane dest → (a ≡ b) × (x ≡ y)
@@ -61,16 +49,11 @@ pub read-plane-one :
     → result a x ≡ planeRead input start stored plane code dest → result b y ≡ planeRead input start stored plane code dest → (a ≡ b) × (x ≡ y)
 read-plane-one input start stored plane code dest = result-one paper answerOf answer-back (planeRead input start stored plane code dest)
 
-pub pack-one :
-    (plane dest : List ℕ) (a b : PackAnswer) (x y : List ℕ)
-    → packResult a x ≡ packs plane dest → packResult b y ≡ packs plane dest → (a ≡ b) × (x ≡ y)
-pack-one plane dest = result-one packPaper packAnswerOf pack-answer-back (packs plane dest)
-
 -- an answer that is not the whole plane leaves the destination as it was
 left-alone :
     (a : PlaneAnswer) (stored plane : ℕ) (dest : List ℕ) (o : Outcome) → (paper a .number ≡ 0 → ⊥)
     → paper a ≡ verdict stored plane o → dest ≡ laid plane dest o
-left-alone a stored plane dest (bytes xs) other e = absurd (other (ap (λ (p : Paper). p .number) e))
+left-alone a stored plane dest (bytes xs) other e = absurd (other (ap (λ (p : Plane). p .number) e))
 left-alone a stored plane dest (refused number place) other e = refl
 
 -- what the two passes leave is what the definition says

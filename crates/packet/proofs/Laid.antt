@@ -1,17 +1,12 @@
--- What the reader and the packer lay into a buffer: two bytes, a byte repeated, and a packet's literal bytes.
+-- What the reader lays into a buffer: a byte repeated, and a packet's literal bytes.
 use mathlib.Core.Path.{_≡_, sym, ap, _∙_}
 use mathlib.Core.List.{List, [], _∷_}
-use Prim.Native.Nat.{ℕ, _+_, _<_, _≤_}
+use Prim.Native.Nat.{ℕ, _+_, _<_}
 use native.Mathlib.Omega.{arith}
-use lib.ListN.{length, take, drop, set, length-set, replicate, length-replicate, replicate-append-replicate}
+use lib.ListN.{length, take, drop, set, replicate, length-replicate, replicate-append-replicate}
 use lib.Seq.{drop-drop}
 use Rattle.laws.specs.Lists.{part, over}
-use Rattle.laws.proofs.Over.{over-length, over-one, over-over, over-cons}
-
-pub over-two : (t : List ℕ) (i a b : ℕ) → i + 2 ≤ length t → set (set t i a) (i + 1) b ≡ over t i (a ∷ b ∷ [])
-over-two t i a b h =
-    let len : length (set t i a) ≡ length t = length-set t i a in
-    over-one (set t i a) (i + 1) b (omega arith) ∙ over-cons t i a (b ∷ []) (omega arith)
+use Rattle.laws.proofs.Over.{over-length, over-one, over-over}
 
 -- a byte repeated once more
 pub over-repeat :

@@ -1,12 +1,7 @@
--- Laws that several proofs cite.
+-- Laws that several proofs cite, and what reading promises.
 pub mod Laid
 pub mod Stream
 pub mod Reading
 pub mod Answers
 pub mod PlaneTests
-pub mod Until
-pub mod Packing
-pub mod Bound
-pub mod WayBack
-pub mod Counts
 pub mod Promises

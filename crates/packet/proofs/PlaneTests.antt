@@ -9,14 +9,15 @@ use lib.ListN.{length, drop, length-append}
 use Rattle.laws.specs.Choice.{pick}
 use Rattle.laws.specs.Lists.{part, over}
 use Rattle.laws.specs.Results.{Result}
-use Rattle.packet.specs.Reading.{Paper, untouched, filled, unpacked, planeRead}
+use Rattle.packet.specs.declared.told.Plane.{Plane}
+use Rattle.packet.specs.Reading.{untouched, filled, unpacked, planeRead}
 use Rattle.limits.specs.Limits.{planeLimit}
 use Rattle.laws.proofs.Choice.{pick-yes, pick-no}
 use Rattle.laws.proofs.Part.{part-length, part-longer}
 use Rattle.laws.proofs.Over.{over-front}
 
 module _ (input : List ℕ) (start stored plane code : ℕ) (dest : List ℕ) where
-  abbrev said : Result Paper
+  abbrev said : Result Plane
   said = planeRead input start stored plane code dest
 
   pub unknown-code : 1 < code → said ≡ untouched 24 dest
@@ -80,7 +81,7 @@ pub plane-longer :
     → planeRead (s ++ t) start stored plane code dest ≡ planeRead s start stored plane code dest
 unfolding planeRead
 plane-longer s t start stored plane code dest there =
-    let rest : List ℕ → Result Paper = λ stream.
+    let rest : List ℕ → Result Plane = λ stream.
     pick (ltb (length dest) plane) (untouched 20 dest)
     (pick (eqb code 1) (unpacked stream plane dest) (pick (eqb stored plane) (filled stored plane stream dest) (untouched 25 dest))) in
     let longer : start + stored ≤ length (s ++ t) = omega (arith, length-append s t) in
@@ -88,4 +89,4 @@ plane-longer s t start stored plane code dest there =
     pick-no _ _ _ (le-ltb (length (s ++ t)) (start + stored) longer)
     ∙ ap rest (part-longer s t start stored there)
     ∙ sym (pick-no _ _ _ (le-ltb (length s) (start + stored) there)) in
-    ap (λ (r : Result Paper). pick (ltb 1 code) (untouched 24 dest) (pick (ltb planeLimit plane) (untouched 26 dest) r)) same
+    ap (λ (r : Result Plane). pick (ltb 1 code) (untouched 24 dest) (pick (ltb planeLimit plane) (untouched 26 dest) r)) same

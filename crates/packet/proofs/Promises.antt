@@ -11,7 +11,8 @@ use Rattle.packet.specs.declared.Look.{Look}
 use Rattle.laws.specs.Lists.{part}
 use Rattle.packet.specs.Stream.{sizeOf, countOf, bytesOf, Outcome, bytes, refused, join, meant, meaningWith, meaning}
 use Rattle.laws.specs.Results.{Result}
-use Rattle.packet.specs.Reading.{Paper, refusal, untouched, filled, verdict, laid, unpacked, planeRead}
+use Rattle.packet.specs.declared.told.Plane.{Plane}
+use Rattle.packet.specs.Reading.{refusal, untouched, filled, verdict, laid, unpacked, planeRead}
 use Rattle.laws.proofs.Choice.{pick-ind}
 use Rattle.laws.proofs.Part.{part-length}
 use Rattle.packet.proofs.Stream.{Inside, Sound, ended, count-128, missing, too-much, next, sound}
@@ -60,8 +61,8 @@ meaning-right s plane =
     end : (n : ℕ) → 0 + n ≡ n
     end n = omega arith
 
--- a good answer has the stored length as place, writes exactly the plane, and keeps the rest; any other reports 0 bytes and writes nothing
-pub data Honest (stored plane : ℕ) (before : List ℕ) : Result Paper → Type 0 where
+-- good: all of the stream is read, the plane is written, the rest is kept; otherwise nothing is written, and 0 bytes are told
+pub data Honest (stored plane : ℕ) (before : List ℕ) : Result Plane → Type 0 where
   whole : (xs : List ℕ) → length xs ≡ plane → plane ≤ length before → Honest stored plane before (filled stored plane xs before)
   alone : (number place : ℕ) → 20 ≤ number → place ≤ stored → Honest stored plane before (record { told = refusal number place; dest = before })
 

@@ -50,7 +50,7 @@ sound (count ∷ rest) left =
     })))))
 
 -- what a look at a packet shows
-pub inside : {stream : List ℕ} {left : ℕ} {p : Packet} → Sound stream left (Next p) → Inside stream left p
+inside : {stream : List ℕ} {left : ℕ} {p : Packet} → Sound stream left (Next p) → Inside stream left p
 inside (next i) = i
 
 pub fitted-missing : (rest left : ℕ) (p : Packet) → rest < dataOf p → fitted rest left p ≡ Missing
@@ -120,7 +120,7 @@ meant-same F G stream at left same too-much = refl
 meant-same F G stream at left same (next {p} i) = ap (join (bytesOf p stream)) (same p i)
 
 -- any fuel above the stream's length gives one meaning
-pub steady : (f g : ℕ) (stream : List ℕ) (at left : ℕ) → length stream < f → length stream < g → meaningWith f stream at left ≡ meaningWith g stream at left
+steady : (f g : ℕ) (stream : List ℕ) (at left : ℕ) → length stream < f → length stream < g → meaningWith f stream at left ≡ meaningWith g stream at left
 unfolding meaningWith
 steady zero g stream at left hf hg = absurd (omega arith)
 steady (suc f) zero stream at left hf hg = absurd (omega arith)

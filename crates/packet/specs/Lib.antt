@@ -1,3 +1,3 @@
+-- What packets mean, and what reading them answers and leaves.
 pub mod Stream
 pub mod Reading
-pub mod Packing

@@ -9,7 +9,7 @@ use Rattle.packet.specs.declared.Packet.the-variants.{Literals, Run}
 use Rattle.packet.specs.declared.Look.{Look}
 use Rattle.packet.specs.declared.Look.the-variants.{End, Next, Count128, Missing, TooMuch}
 
--- a count byte below 128 is followed by that many literal bytes; above 128, the next byte repeats count - 128 times
+-- below 128: so many literals follow; above: one byte follows, and stands for count less 128 of it
 unfoldable pub packetOf : ℕ → List ℕ → Packet
 packetOf count rest = pick (ltb count 128) (Literals count) (Run (count - 128) (getD rest 0 0))
 
@@ -39,8 +39,8 @@ fitted rest left p =
     (pick (ltb left (countOf p)) TooMuch
     (Next p))
 
--- what stands at the front of a stream where the plane has so many bytes left. The tests in the document's order: plane full and bytes
--- left, 23; stream at its end and plane not full, 22; count 128, 21; packet data missing, 22; more than the plane has left, 23
+-- what stands at the front of a stream where the plane has so many bytes left. The tests by rank: 23 for
+-- a plane that is full already, 22 for a stream that is over, 21, 22 for data that is cut off, 23 for too much
 unfoldable pub lookOf : List ℕ → ℕ → Look
 lookOf [] left = pick (eqb left 0) End Missing
 lookOf (count ∷ rest) left =
@@ -77,12 +77,3 @@ meaningFrom stream at left = meaningWith (suc (length stream)) stream at left
 
 unfoldable pub meaning : List ℕ → ℕ → Outcome
 meaning stream plane = meaningFrom stream 0 plane
-
--- the count bytes of a stream, packet by packet; fuel of the stream's length never runs out
-unfoldable pub countsWith : ℕ → List ℕ → List ℕ
-countsWith zero stream = []
-countsWith (suc fuel) [] = []
-countsWith (suc fuel) (count ∷ rest) = count ∷ countsWith fuel (drop (dataOf (packetOf count rest)) rest)
-
-abbrev pub counts : List ℕ → List ℕ
-counts stream = countsWith (length stream) stream

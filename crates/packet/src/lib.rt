@@ -1,15 +1,16 @@
-// Packets of run lengths (document 01, Packets): the packet reader, the plane reader and the packer. The caller lends every buffer; a
-// reader tests all before it writes one byte, and the packer measures first. No public function has a `requires`.
+// Packets of run lengths (document 01, Packets): the packet reader and the plane reader. The caller lends every buffer, and a reader tests
+// all before it writes one byte. No reader has a `requires`. The packer (crate packer) copies and counts with the same leaves.
 mod copy;
-mod numbers;
-mod packer;
 mod packets;
 mod plane;
 mod reader;
+mod told;
 
-pub use packer::pack;
+pub use copy::copy_over;
+pub use copy::wide;
 pub use plane::read_plane;
 pub use reader::unpack;
+pub use told::Plane;
 
 // So many literal bytes, or a byte that is repeated so many times.
 pub enum Packet {
@@ -46,14 +47,4 @@ pub enum PlaneAnswer {
     OverLimit,
     // 27: a stored part that is not inside the input
     Outside,
-}
-
-// What packing answers; `packPaper` gives each its number and length.
-pub enum PackAnswer {
-    // 0: the packed form is written
-    Packed { length: usize },
-    // 30: the destination is shorter than the packed form
-    NoRoom,
-    // 31: a plane over the limit
-    OverLimit,
 }

@@ -81,7 +81,8 @@ pub fn unpack(stream: &[u8], dest: &mut [u8], plane: usize) -> PlaneAnswer
         return PlaneAnswer::NoRoom;
     }
     let answer = test(stream, plane);
-    if answer.number() == 0 {
+    let told = answer.told();
+    if told.number == 0 {
         write(stream, dest, plane);
     }
     answer

@@ -9,13 +9,15 @@ use lib.ListN.{length, getD}
 use Rattle.limits.specs.Limits.{inputLimit}
 use Rattle.laws.specs.Front.{Front}
 use Rattle.laws.proofs.Front.{front-length, front-at}
+use Rattle.answer.specs.declared.Refusal.the-variants.{EndsTooSoon}
+use Rattle.answer.specs.declared.Answer.the-variants.{Accepted, Refused, TableFull}
 use Rattle.entry.specs.declared.Entry.{Entry}
 use Rattle.packet.specs.Reading.{planeRead}
 use Rattle.packet.proofs.PlaneTests.{plane-longer}
 use Rattle.listing.specs.Listing.{listed}
-use Rattle.listing.specs.Layers.{isChannel}
+use Rattle.listing.specs.Right.{isChannel}
 use Rattle.listing.proofs.Prefix.{beginning, more-room}
-use Rattle.listing.proofs.Layers.{each-right}
+use Rattle.listing.proofs.RightEntries.{each-right}
 
 module _ (s t : List ℕ) (room more : ℕ) (small : length (s ++ t) ≤ inputLimit) (le : room ≤ more) where
   -- each entry listed for the shorter stands at the same position, unchanged, in the longer's list
@@ -30,20 +32,21 @@ module _ (s t : List ℕ) (room more : ℕ) (small : length (s ++ t) ≤ inputLi
       (k : ℕ) (d : Entry) → k < length (listed s room .entries) → isChannel (getD (listed s room .entries) k d) ≡ true
       → (plane code : ℕ) (dest : List ℕ)
       → let e = getD (listed s room .entries) k d in
-      planeRead (s ++ t) (e .start) (e .stored) plane code dest ≡ planeRead s (e .start) (e .stored) plane code dest
+      planeRead (s ++ t) (e .content .start) (e .content .stored) plane code dest ≡ planeRead s (e .content .start) (e .content .stored) plane code dest
   planes-kept k d some channel plane code dest =
       let e = getD (listed s room .entries) k d in
-      plane-longer s t (e .start) (e .stored) plane code dest (each-right s room k d some .channel channel .inside)
+      plane-longer s t (e .content .start) (e .content .stored) plane code dest (each-right s room k d some .channel channel .inside)
 
   -- if the shorter is refused for anything but ending too soon or a full table, the longer gets that same refusal, place and list
   pub refusal-kept :
-      (listed s room .number ≡ 0 → ⊥) → (listed s room .number ≡ 2 → ⊥) → (listed s room .number ≡ 12 → ⊥) → listed s room ≡ listed (s ++ t) more
+      (listed s room .answer ≡ Accepted → ⊥) → (listed s room .answer ≡ Refused EndsTooSoon → ⊥) → (listed s room .answer ≡ TableFull → ⊥)
+      → listed s room ≡ listed (s ++ t) more
   refusal-kept = beginning s t room more small le .settled
 
   -- an accepted beginning: the longer's list begins with the shorter's whole list
-  pub accepted-kept : listed s room .number ≡ 0 → Front (listed s room .entries) (listed (s ++ t) more .entries)
+  pub accepted-kept : listed s room .answer ≡ Accepted → Front (listed s room .entries) (listed (s ++ t) more .entries)
   accepted-kept ok = beginning s t room more small le .entries
 
 -- a full table: with more room at least the same entries are listed
-pub full-kept : (s : List ℕ) (room more : ℕ) → room ≤ more → listed s room .number ≡ 12 → Front (listed s room .entries) (listed s more .entries)
+pub full-kept : (s : List ℕ) (room more : ℕ) → room ≤ more → listed s room .answer ≡ TableFull → Front (listed s room .entries) (listed s more .entries)
 full-kept s room more le full = more-room s room more le

@@ -1,1 +1,2 @@
+-- The demands as theorems.
 pub mod Kept

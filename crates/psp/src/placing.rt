@@ -1,4 +1,4 @@
-// Placing a plane on a canvas, and the pixels that two rectangles share.
+// Rectangles for C: a plane placed on a canvas, and the pixels that two rectangles share.
 use rect::Rect;
 ghost use mathlib.Core.Path.{_≡_};
 ghost use Rattle.canvas.specs.Placing.{placed};

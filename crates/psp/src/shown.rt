@@ -1,13 +1,12 @@
 // Views of an accepted input: parts as numbers, and facts.
-use boundary::Dots;
-use chunk::resolution::Resolution;
+use attributes::resolution::Dots;
+use attributes::resolution::Resolution;
 use view::ImageFacts;
 use view::LayerFacts;
 use view::Part;
 ghost use mathlib.Core.Path.{_≡_};
 ghost use lib.ListN.{length};
-ghost use Rattle.boundary.specs.Paper.{dotsOf};
-ghost use Rattle.chunk.specs.Resolution.{densityOf};
+ghost use Rattle.attributes.specs.Resolution.{densityOf, dotsOf};
 ghost use Rattle.view.specs.Facts.{imageFacts, layerFacts};
 ghost use Rattle.view.specs.Name.{nameView};
 ghost use Rattle.view.specs.Palette.{paletteView};
@@ -48,5 +47,6 @@ pub extern "C" fn psp_dots_per_centimetre(value: f64, metric: u8) -> Dots
     ensures { λ r. ⌜ r ≡ dotsOf (densityOf (record { value = value; metric = metric })) ⌝ }
 {
     let resolution = Resolution { value, metric };
-    boundary::dots_told(resolution.per_centimetre())
+    let density = resolution.per_centimetre();
+    density.told()
 }

@@ -6,7 +6,7 @@ use lib.IntN.{ℤ}
 use lib.Signed.{mag, ltZ}
 use mir.Syntax.{w32}
 use mir.Val.{SFits, toZ, ofZ}
-use Rattle.little.proofs.Signed.{back}
+use Rattle.endian.proofs.Signed.{back}
 
 pub moved : (a : ℤ) → SFits w32 a → toZ w32 (ofZ w32 a) ≡ a
 moved a fits = back a (fits .sfits) refl

@@ -7,7 +7,9 @@ use lib.IntN.{ℤ}
 use Rattle.laws.proofs.OneOutcome.{one}
 use Rattle.rect.specs.declared.Rect.{Rect}
 use Rattle.rect.specs.Rect.{rectAt, isProper, isEmpty, isInside, isWithin, isSaved, sideOf, widthOf, heightOf}
-use Rattle.rect.specs.Rows.{rowOf, planeOf}
+use Rattle.rect.specs.declared.planes.Sides.{Sides}
+use Rattle.rect.specs.declared.planes.Size.{Size}
+use Rattle.rect.specs.Rows.{rowOf, planeOf, sidesOf, sizeOf}
 use Rattle.rect.specs.Shared.{sharedOf}
 
 pub decode-one : (s : List ℕ) (at : ℕ) (a b : Rect) → a ≡ rectAt s at → b ≡ rectAt s at → a ≡ b
@@ -45,3 +47,9 @@ plane-length-one r bits a b = one
 
 pub intersect-one : (r s : Rect) (a b : Rect) → a ≡ sharedOf r s → b ≡ sharedOf r s → a ≡ b
 intersect-one r s a b = one
+
+pub sides-one : (r : Rect) (a b : Sides) → a ≡ sidesOf r → b ≡ sidesOf r → a ≡ b
+sides-one r a b = one
+
+pub size-one : (s : Sides) (bits : ℕ) (a b : Size) → a ≡ sizeOf s bits → b ≡ sizeOf s bits → a ≡ b
+size-one s bits a b = one

@@ -6,7 +6,7 @@ use mathlib.Core.List.{List}
 use lib.Dec.{leb}
 use lib.IntN.{ℤ, _-ℤ_, natAbs}
 use lib.Signed.{leZ}
-use Rattle.little.specs.Number.{signedAt}
+use Rattle.endian.specs.Number.{signedAt}
 use Rattle.limits.specs.Limits.{sideLimit, leastCoordinate, mostCoordinate}
 use Rattle.rect.specs.declared.Rect.{Rect}
 

@@ -22,7 +22,7 @@ noPixels = record { left = pos 0; top = pos 0; right = pos 0; bottom = pos 0 }
 unfoldable pub framedOf : ℤ → ℤ → ℤ → ℤ → Rect
 framedOf l t r b = pick (ltZ l r) (pick (ltZ t b) (record { left = l; top = t; right = r; bottom = b }) noPixels) noPixels
 
--- the shared pixels, and 0,0,0,0 if there are none
+-- the pixels in both, or zeros
 abbrev pub sharedOf : Rect → Rect → Rect
 sharedOf a b =
     framedOf (greaterOf (a .left) (b .left)) (greaterOf (a .top) (b .top)) (lesserOf (a .right) (b .right)) (lesserOf (a .bottom) (b .bottom))

@@ -1,11 +1,13 @@
-// Rectangles of a file (document 01, "Rectangles are signed corners, the lower right one exclusive"): their rules, their sides, the rows
-// and planes that they size, and the pixels that two of them share.
+// Rectangles of a file (document 01, "Units"): four signed corners. Their rules, their sides, the rows and planes that they size, and the
+// pixels that two of them share.
 mod intersection;
 mod planes;
 mod rules;
 mod sides;
 
 pub use intersection::intersect;
+pub use planes::Sides;
+pub use planes::Size;
 pub use planes::plane_length;
 pub use planes::row_bytes;
 pub use rules::empty;
@@ -38,10 +40,10 @@ impl Rect {
         ensures { λ r. ⌜ r ≡ rectAt (now (file .entry)) at ⌝ }
     {
         Rect {
-            left: little::i32_at(file, at),
-            top: little::i32_at(file, at + 4),
-            right: little::i32_at(file, at + 8),
-            bottom: little::i32_at(file, at + 12),
+            left: endian::i32_at(file, at),
+            top: endian::i32_at(file, at + 4),
+            right: endian::i32_at(file, at + 8),
+            bottom: endian::i32_at(file, at + 12),
         }
     }
 }

@@ -1,4 +1,5 @@
--- Laws of the views: what an accepted input has, where a part lies, the rules that facts satisfy, and that a view has one outcome.
+-- Laws of the views: their ways, what they may decode, where a part lies, the rules that facts satisfy, and that a view has one outcome.
+pub mod Asked
 pub mod Accepted
 pub mod Place
 pub mod Zero

@@ -1,5 +1,5 @@
--- Where a part of a slice lies: what `&s[start..start + n]` is, and that a place and bytes leave one part.
-use mathlib.Core.Path.{_≡_, refl, sym, ap, _∙_}
+-- The two forms of a part agree: what `&s[start..start + n]` is by its numbers, and that a place and bytes leave one part.
+use mathlib.Core.Path.{_≡_, refl, sym, _∙_}
 use Prim.Native.Nat.{ℕ, _+_, _-_}
 use native.Mathlib.Omega.{arith}
 use lib.ListN.{take, drop}

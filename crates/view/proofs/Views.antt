@@ -1,5 +1,5 @@
--- The views by their answers, and that each leaves one outcome: the number, which slice is shown of, where the part starts, and its bytes.
-use mathlib.Core.Path.{_≡_, sym, ap, subst, subst⁻¹}
+-- A caller may slice by the numbers that a view gives, since the part lies in its slice; and each view leaves one outcome.
+use mathlib.Core.Path.{_≡_, ap, subst, subst⁻¹}
 use mathlib.Core.List.{List}
 use Prim.Native.Nat.{ℕ, _+_, _≤_}
 use native.Mathlib.Omega.{arith}
@@ -11,17 +11,18 @@ use Rattle.laws.specs.Lists.{part}
 use Rattle.laws.proofs.Choice.{pick-yes, pick-no, pick-ind}
 use Rattle.laws.proofs.OneOutcome.{one}
 use Rattle.laws.proofs.Part.{part-length}
-use Rattle.chunk.specs.ImageAttributes.{imageAt}
-use Rattle.listing.specs.Listing.{listed}
+use Rattle.headers.specs.Places.{imageChunkPlace}
+use Rattle.attributes.specs.ImageAttributes.{imageAt}
 use Rattle.view.specs.declared.facts.ImageFacts.{ImageFacts}
 use Rattle.view.specs.declared.facts.LayerFacts.{LayerFacts}
 use Rattle.view.specs.declared.part.Part.{Part}
+use Rattle.view.specs.Asked.{paletteAsked, isThere, layerPlace}
 use Rattle.view.specs.Facts.{imageFacts, layerFacts}
-use Rattle.view.specs.Found.{soughtOf}
 use Rattle.view.specs.Name.{beforeZero, nameView, NameShown}
 use Rattle.view.specs.Palette.{paletteView, Shows, PaletteShown}
-use Rattle.view.specs.Shown.{Slice, PartOf}
-use Rattle.view.proofs.Accepted.{accepted-has}
+use Rattle.view.specs.Shown.{refusal, Slice, PartOf}
+use Rattle.view.proofs.Accepted.{palette-has, layer-has}
+use Rattle.view.proofs.Asked.{accepted-ind, layer-ind}
 use Rattle.view.proofs.Place.{Same, taken, part-of, part-one}
 use Rattle.view.proofs.Zero.{name-field, zero-most}
 
@@ -42,9 +43,9 @@ pub palette-lies : (s : List ℕ) (room ramp : ℕ) → Lies (length s) ramp (pa
 unfolding paletteView pick
 palette-lies s room ramp =
     let P = Lies (length s) ramp in
-    pick-ind P (eqb (listed s room .number) 0) _ _
-    (λ yes. pick-ind P (eqb (imageAt s 50 .depth) 24) _ _ (λ _. omega arith)
-    (λ _. pick-ind P (soughtOf s room 0 .palette) _ _ (λ there. accepted-has s 0 room (eqb-true _ _ yes) .there .palette there)
+    accepted-ind refusal s room P _
+    (λ _. pick-ind P (eqb (imageAt s imageChunkPlace .depth) 24) _ _ (λ _. omega arith)
+    (λ _. pick-ind P (isThere paletteAsked s room) _ _ (λ there. palette-has s room there .inside)
     (λ _. pick-ind P (eqb ramp 1024) _ _ (λ long. omega (arith, eqb-true ramp 1024 long)) (λ _. omega arith))))
     (λ _. omega arith)
 
@@ -52,14 +53,12 @@ palette-lies s room ramp =
 pub name-lies : (s : List ℕ) (room k : ℕ) → nameView s room k .start + nameView s room k .length ≤ length s
 unfolding nameView
 name-lies s room k =
-    let P : Part → Type 0 = λ p. p .start + p .length ≤ length s in
-    pick-ind P (eqb (listed s room .number) 0) _ _
-    (λ yes. pick-ind P (soughtOf s room k .found) _ _
-    (λ there.
-    let at = soughtOf s room k .place + 14 in
-    let present = accepted-has s k room (eqb-true _ _ yes) .there .layer there .present in
-    omega (arith, present, ap beforeZero (name-field s at), zero-most (part s at 256), part-length s at 256 (omega (arith, present))))
-    (λ _. omega arith))
+    layer-ind refusal s room k _ (λ (p : Part). p .start + p .length ≤ length s)
+    (λ _ there.
+    let at = layerPlace s room k in
+    let inside = layer-has s room k there .inside in
+    omega (arith, inside, ap beforeZero (name-field s at), zero-most (part s at 256), part-length s at 256 (omega (arith, inside))))
+    (λ _. omega arith)
     (λ _. omega arith)
 
 -- ### The palette

@@ -1,5 +1,5 @@
--- The bytes before the first zero, counted from the front.
-use mathlib.Core.Path.{_≡_, refl, sym, ap, _∙_}
+-- The code looks for a name's end byte by byte, and the definition by the list's tail: both count the same.
+use mathlib.Core.Path.{_≡_, sym, ap, _∙_}
 use mathlib.Core.List.{List, [], _∷_}
 use Prim.Native.Nat.{ℕ, suc, _+_, _-_, _≤_, _<_}
 use native.Mathlib.Omega.{arith}

@@ -1,5 +1,5 @@
--- Views of an input: what they list first, what they show and where, and the facts of its image and layers.
-pub mod Found
+-- The views: their questions and refusals, the parts that they show, the facts that they give.
+pub mod Asked
 pub mod Zeros
 pub mod Facts
 pub mod Shown

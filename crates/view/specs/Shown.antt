@@ -1,4 +1,4 @@
--- What a view shows: a part of a lent slice, by numbers, and as the slice that it is.
+-- A part of a lent slice has two forms, and both are stated here: C gets it in numbers, Rattle as the slice that it is.
 use mathlib.Core.Path.{_≡_}
 use mathlib.Core.List.{List}
 use Prim.Native.Nat.{ℕ, _+_}
@@ -14,7 +14,7 @@ ofInput start n = record { number = 0; which = 0; start = start; length = n }
 abbrev pub ofRamp : Part
 ofRamp = record { number = 0; which = 1; start = 0; length = 1024 }
 
--- a part of length 0 at the input's start
+-- nothing, at the input's start
 abbrev pub refusal : ℕ → Part
 refusal number = record { number = number; which = 0; start = 0; length = 0 }
 

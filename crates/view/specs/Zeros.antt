@@ -1,11 +1,11 @@
--- What a refusal gives: zeros.
+-- What stands in a record of facts where there is nothing to tell: zeros, flags that are off, arrays of zeros.
 use mathlib.Core.Bool.{false}
 use lib.Ieee.{fin}
 use lib.IntN.{pos}
 use lib.ListN.{replicate}
 use Rattle.rect.specs.declared.Rect.{Rect}
 use Rattle.chunk.specs.declared.area.Area.{Area}
-use Rattle.chunk.specs.declared.image_attributes.ImageChunk.{ImageChunk}
+use Rattle.attributes.specs.declared.image_attributes.ImageChunk.{ImageChunk}
 use Rattle.chunk.specs.declared.layer_information.LayerChunk.{LayerChunk}
 
 unfoldable pub noImage : ImageChunk

@@ -1,13 +1,16 @@
-// The facts of an image and of layer k: every field of its chunk. A refusal gives zeros.
-use crate::found::IMAGE;
-use crate::found::find;
+// Facts are whole chunks in the caller's own record, so that C needs no decoder. Beside a refusal they are zeros.
 use crate::zeros::no_image;
 use crate::zeros::no_layer;
-use chunk::block_header::BlockHeader;
-use chunk::image_attributes::ImageChunk;
+use attributes::image_attributes::ImageChunk;
 use chunk::layer_information::LayerChunk;
+use headers::block_header::BlockHeader;
+use headers::file_header::FileHeader;
+use listing::Question;
 ghost use mathlib.Core.Path.{_≡_};
 ghost use Rattle.view.specs.Facts.{imageFacts, layerFacts};
+
+// The image block comes first: its chunk stands behind the file header and its own header.
+pub const IMAGE: usize = FileHeader::SIZE + BlockHeader::SIZE;
 
 #[repr(C)]
 pub struct ImageFacts {
@@ -25,16 +28,16 @@ pub struct LayerFacts {
 pub fn image_facts(input: &[u8], room: usize) -> ImageFacts
     ensures { λ r. ⌜ r ≡ imageFacts (now (input .entry)) room ⌝ }
 {
-    let found = find(input, room, 0);
-    let number = found.number;
-    if number == 0 {
+    let outcome = listing::count(input, room);
+    let answer = outcome.answer;
+    if answer.accepted() {
         return ImageFacts {
             number: 0,
             image: ImageChunk::decode(input, IMAGE),
         };
     }
     ImageFacts {
-        number,
+        number: answer.number(),
         image: no_image(),
     }
 }
@@ -43,24 +46,34 @@ pub fn image_facts(input: &[u8], room: usize) -> ImageFacts
 pub fn layer_facts(input: &[u8], room: usize, k: u32) -> LayerFacts
     ensures { λ r. ⌜ r ≡ layerFacts (now (input .entry)) room k ⌝ }
 {
-    let found = find(input, room, k);
-    let number = found.number;
-    if number == 0 {
-        let layer = found.sought;
-        if layer.found {
-            let at = layer.place as usize;
-            return LayerFacts {
-                number: 0,
-                layer: LayerChunk::decode(input, at + BlockHeader::SIZE),
-            };
-        }
+    let o = listing::seek(
+        input,
+        room,
+        Question {
+            id: 4,
+            skipped: 0,
+            index: k as usize,
+        },
+    );
+    let outcome = o.outcome;
+    let answer = outcome.answer;
+    if !answer.accepted() {
         return LayerFacts {
-            number: 45,
+            number: answer.number(),
             layer: no_layer(),
         };
     }
+    let found = o.found;
+    if (k as usize) < found.count {
+        let layer = found.entry;
+        let block = layer.block;
+        return LayerFacts {
+            number: 0,
+            layer: LayerChunk::decode(input, block.place as usize + BlockHeader::SIZE),
+        };
+    }
     LayerFacts {
-        number,
+        number: 45,
         layer: no_layer(),
     }
 }

@@ -1,7 +1,7 @@
-// A layer's name: a part of the file.
-use crate::found::find;
+// A name is shown where it stands in the input: nothing is copied, and its length is counted here.
 use crate::part::Part;
-use chunk::block_header::BlockHeader;
+use headers::block_header::BlockHeader;
+use listing::Question;
 ghost use mathlib.Core.Path.{_≡_};
 ghost use Rattle.view.specs.Name.{beforeZero, nameView, NameShown};
 
@@ -13,20 +13,32 @@ const FIELD: usize = 256;
 pub fn name_part(input: &[u8], room: usize, k: u32) -> Part
     ensures { λ r. ⌜ r ≡ nameView (now (input .entry)) room k ⌝ }
 {
-    let found = find(input, room, k);
-    if found.number != 0 {
-        return Part::refusal(found.number);
+    let o = listing::seek(
+        input,
+        room,
+        Question {
+            id: 4,
+            skipped: 0,
+            index: k as usize,
+        },
+    );
+    let outcome = o.outcome;
+    let answer = outcome.answer;
+    if !answer.accepted() {
+        return Part::refusal(answer.number());
     }
-    let layer = found.sought;
-    if layer.found {
-        let at = layer.place as usize + BlockHeader::SIZE;
+    let found = o.found;
+    if (k as usize) < found.count {
+        let layer = found.entry;
+        let block = layer.block;
+        let at = block.place as usize + BlockHeader::SIZE;
         let length = before_zero(&input[at..at + FIELD]);
         return Part::of_input(at, length);
     }
     Part::refusal(45)
 }
 
-// Shows that part. A refusal shows a part of length 0 at the input's start.
+// Shows that part; a refusal shows nothing, at the input's start.
 pub fn name<'a>(input: &'a [u8], room: usize, k: u32, number: &mut u32) -> &'a [u8]
     ensures { λ r. ⌜ NameShown (input .entry) room k (now (number .exit)) r ⌝ }
 {

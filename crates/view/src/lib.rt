@@ -1,10 +1,11 @@
-// Views of an accepted input (document 01, "Canvas and palette"): its palette, the facts of its image and of its layers, and a layer's
-// name. Each lists the input first, with a room in entries and no table; an input that is not accepted gets the listing's own number.
+// What a caller may look at without a table: the palette, the facts of the image and of a layer, and a layer's name. A view walks the
+// input once and asks one question on the way, so it is as sure of what it shows as a listing is; whatever is refused there is refused
+// here by the same number.
 mod facts;
-mod found;
 mod layer_name;
 mod palette_view;
 mod part;
+mod shorten;
 mod zeros;
 
 pub use facts::ImageFacts;

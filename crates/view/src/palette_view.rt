@@ -1,27 +1,40 @@
-// The palette view: a part of the file, or the caller's grey ramp.
-use crate::found::IMAGE;
-use crate::found::find;
+// A palette is shown where it stands: in the input, or in the caller's own ramp, which a grey image has for its palette.
+use crate::facts::IMAGE;
 use crate::part::Part;
 use crate::part::RAMP;
-use chunk::image_attributes::ImageChunk;
+use crate::shorten::shorter;
+use attributes::image_attributes::ImageChunk;
+use listing::Question;
 ghost use mathlib.Core.Path.{_≡_};
 ghost use Rattle.view.specs.Palette.{paletteView, PaletteShown};
 
-// Where the listed palette's entries are, or that it is the ramp for a grey image without one. The listing's own number; then 43: depth
-// 24; 44: grey, no palette listed, a ramp that is not 1,024 bytes.
+// Where the listed palette's entries are, or that the ramp stands in for one. The listing's own number; then 43 at depth 24, and 44 where a
+// ramp of another length would have to stand in.
 pub fn palette_part(input: &[u8], room: usize, ramp: usize) -> Part
     ensures { λ r. ⌜ r ≡ paletteView (now (input .entry)) room ramp ⌝ }
 {
-    let found = find(input, room, 0);
-    if found.number != 0 {
-        return Part::refusal(found.number);
+    let o = listing::seek(
+        input,
+        room,
+        Question {
+            id: 2,
+            skipped: 0,
+            index: 0,
+        },
+    );
+    let outcome = o.outcome;
+    let answer = outcome.answer;
+    if !answer.accepted() {
+        return Part::refusal(answer.number());
     }
     let image = ImageChunk::decode(input, IMAGE);
     if image.depth == 24 {
         return Part::refusal(43);
     }
-    let entries = found.sought;
-    if entries.palette {
+    let found = o.found;
+    if 0 < found.count {
+        let palette = found.entry;
+        let entries = palette.content;
         return Part::of_input(entries.start as usize, entries.stored as usize);
     }
     if ramp == RAMP {
@@ -30,7 +43,7 @@ pub fn palette_part(input: &[u8], room: usize, ramp: usize) -> Part
     Part::refusal(44)
 }
 
-// Shows that part. A refusal shows a part of length 0 at the input's start.
+// Shows that part; a refusal shows nothing, at the input's start.
 pub fn palette<'a, 'b: 'a>(
     input: &'a [u8],
     room: usize,
@@ -39,7 +52,7 @@ pub fn palette<'a, 'b: 'a>(
 ) -> &'a [u8]
     ensures { λ r. ⌜ PaletteShown (input .entry) room (ramp .entry) (now (number .exit)) r ⌝ }
 {
-    let near = lent::shorter(input, ramp);
+    let near = shorter(input, ramp);
     shown(input, room, near, number)
 }
 

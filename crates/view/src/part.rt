@@ -1,4 +1,4 @@
-// A part of a lent slice in numbers: an answer, which slice, where the part starts, and how long it is.
+// C gets no slice back, so what is shown goes to it in numbers: an answer, which of the lent slices, where the part starts, its length.
 ghost use mathlib.Core.Path.{_≡_};
 ghost use Rattle.view.specs.Shown.{ofInput, ofRamp, refusal};
 
@@ -38,7 +38,7 @@ impl Part {
         }
     }
 
-    // A part of length 0 at the input's start.
+    // Nothing, at the input's start.
     pub fn refusal(number: u32) -> Part
         ensures { λ r. ⌜ r ≡ refusal number ⌝ }
     {

@@ -1,8 +1,8 @@
-// The facts of a refusal: zeros, flags that are off, arrays of zeros.
+// A record of facts has no empty form: beside a refusal its fields are zeros, so that nothing of a refused input gets out.
+use attributes::image_attributes::ImageChunk;
+use attributes::resolution::Resolution;
 use chunk::area::Area;
-use chunk::image_attributes::ImageChunk;
 use chunk::layer_information::LayerChunk;
-use chunk::resolution::Resolution;
 use rect::Rect;
 ghost use mathlib.Core.Path.{_≡_};
 ghost use Rattle.view.specs.Zeros.{noImage, noArea, noLayer};

@@ -1,10 +1,11 @@
--- Two inputs with a common beginning: what is listed of one, and lies in the beginning, is listed of the other at the same position.
+-- Later bytes have no say in earlier entries: of two inputs with a common beginning, what is listed of one, and lies in the beginning, is
+-- listed of the other at the same position.
 use mathlib.Core.Path.{_≡_, sym, ap, subst, _∙_}
-use mathlib.Core.Logic.{_⊎_, inl, inr, ⊎-elim}
+use mathlib.Core.Logic.{⊎-elim}
 use mathlib.Core.List.{List, _++_}
 use Prim.Native.Nat.{ℕ, _+_, _-_, _≤_, _<_}
 use native.Mathlib.Omega.{arith}
-use lib.ListN.{length, take, drop, getD, length-take, length-drop}
+use lib.ListN.{length, take, getD, length-take, length-drop}
 use lib.Seq.{getD-take, getD-drop}
 use Rattle.laws.specs.All.{All, empty, both}
 use Rattle.laws.proofs.All.{all-at}
@@ -20,14 +21,14 @@ use Rattle.walk.proofs.Tiling.{tiles-drop, tiles-above, run-found}
 use Rattle.walk.proofs.Prefix.{Late, nothing, past, run-later, prefix}
 
 abbrev Past : ℕ → Entry → Type 0
-Past len e = len < e .place + e .owned
+Past len e = len < e .block .place + e .block .owned
 
 -- entries side by side are late from a late one on
 late-all : {len a b : ℕ} {es : List Entry} → Tiles a es b → Late len es → All (Past len) es
 late-all none nothing = empty
-late-all {len} (next {a} {e} h t) (past far) = both far (above (tiles-above (a + e .owned) (omega arith) t))
+late-all {len} (next {a} {e} h t) (past far) = both far (above (tiles-above (a + e .block .owned) (omega arith) t))
   where
-    above : {es : List Entry} → All (λ (x : Entry). a + e .owned ≤ x .place) es → All (Past len) es
+    above : {es : List Entry} → All (λ (x : Entry). a + e .block .owned ≤ x .block .place) es → All (Past len) es
     above empty = empty
     above (both {x} k rest) = let on : Past len x = omega arith in both on (above rest)
 
@@ -51,7 +52,7 @@ module _ {S : Type 0} (main : ℕ) (look : List ℕ → Look S) (rules : Rules m
   -- an entry of the whole that lies in its beginning s is listed of s
   early :
       (room : ℕ) (s t : List ℕ) (k : ℕ) (d : Entry) → k < length (listed room (s ++ t))
-      → getD (listed room (s ++ t)) k d .place + getD (listed room (s ++ t)) k d .owned ≤ length s → k < length (listed room s)
+      → getD (listed room (s ++ t)) k d .block .place + getD (listed room (s ++ t)) k d .block .owned ≤ length s → k < length (listed room s)
   early room s t k d =
       rw (cut-entries room (run (look s) (length s) st at end main), cut-entries room (run (look (s ++ t)) (length (s ++ t)) st at end main))
       (λ high inside.
@@ -59,12 +60,12 @@ module _ {S : Type 0} (main : ℕ) (look : List ℕ → Look S) (rules : Rules m
       let fits : k < room = omega (arith, length-take room (all (s ++ t))) in
       let far = beyond s t k d (omega (arith, length-take room (all s))) (omega (arith, length-take room (all (s ++ t)))) in
       let is : getD (take room (all (s ++ t))) k d ≡ getD (all (s ++ t)) k d = getD-take room (all (s ++ t)) k d fits in
-      absurd (omega (arith, far, ap (λ (e : Entry). e .place + e .owned) is))) (less-or-not k (length (take room (all s)))))
+      absurd (omega (arith, far, ap (λ (e : Entry). e .block .place + e .block .owned) is))) (less-or-not k (length (take room (all s)))))
 
   -- two inputs that begin with s
   pub agree :
       (room : ℕ) (s t t' : List ℕ) (k : ℕ) (d : Entry) → k < length (listed room (s ++ t))
-      → getD (listed room (s ++ t)) k d .place + getD (listed room (s ++ t)) k d .owned ≤ length s
+      → getD (listed room (s ++ t)) k d .block .place + getD (listed room (s ++ t)) k d .block .owned ≤ length s
       → (k < length (listed room (s ++ t'))) × (getD (listed room (s ++ t')) k d ≡ getD (listed room (s ++ t)) k d)
   agree room s t t' k d high inside =
       let low = early room s t k d high inside in

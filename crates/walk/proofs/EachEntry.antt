@@ -1,14 +1,13 @@
--- What the entry of each step has, of itself or of the entries before it, each listed entry has.
+-- From one step to each entry: what the entry of each step has, of itself or of the entries before it, each listed entry has.
 use mathlib.Core.List.{List, []}
-use Prim.Native.Nat.{ℕ, _+_, _≤_, _<_}
-use native.Mathlib.Omega.{arith}
+use Prim.Native.Nat.{ℕ, _≤_, _<_}
 use lib.ListN.{length, take, getD}
 use Rattle.laws.specs.Along.{Along, along-end}
 use Rattle.laws.proofs.Along.{along-more, along-at}
 use Rattle.entry.specs.declared.Entry.{Entry}
 use Rattle.walk.specs.Walk.{Look, run}
 use Rattle.walk.specs.Room.{cut}
-use Rattle.walk.specs.Owed.{Owns, MovesOn}
+use Rattle.walk.specs.Owed.{MovesOn}
 use Rattle.walk.specs.Invariant.{Family, Invariant, Each}
 use Rattle.walk.proofs.Invariant.{run-kept, cut-reached}
 

@@ -1,15 +1,16 @@
 -- Theorems of any walk whose rules pay what they owe.
-pub mod Then
+pub mod Continued
 pub mod Fuel
-pub mod Runs
+pub mod FirstStep
 pub mod Cut
-pub mod Walked
-pub mod Turns
-pub mod Whole
+pub mod LoopArms
+pub mod LoopTurn
+pub mod KeptAlong
 pub mod Invariant
 pub mod Tiling
 pub mod Owners
 pub mod EachEntry
+pub mod Parents
 pub mod Prefix
 pub mod Agree
 pub mod Unit

@@ -1,4 +1,5 @@
--- What is listed of a beginning of the input stands in the listing of the whole, and an answer that more input cannot change stands.
+-- More input: what is listed of a beginning of the input stands in the listing of the whole, and an answer that more input cannot change
+-- stands.
 use mathlib.Core.Path.{_≡_, refl, sym, ap, subst, _∙_}
 use mathlib.Core.List.{List, [], _∷_, _++_}
 use Prim.Native.Nat.{ℕ, zero, suc, _+_, _-_, _≤_, _<_}
@@ -7,12 +8,15 @@ use lib.ListN.{length, drop, length-append}
 use lib.Seq.{drop-length}
 use Rattle.laws.specs.Front.{Front, front, same}
 use Rattle.laws.proofs.Front.{front-refl, front-take}
+use Rattle.answer.specs.declared.Refusal.the-variants.{EndsTooSoon}
+use Rattle.answer.specs.declared.Answer.{Answer}
+use Rattle.answer.specs.declared.Answer.the-variants.{Accepted, Refused}
 use Rattle.entry.specs.declared.Entry.{Entry}
-use Rattle.walk.specs.Walk.{Step, Stop, Leaf, Nest, Look, Listing, Rest, Go, ended, _◂_, follow, walk, run, enough}
+use Rattle.walk.specs.Walk.{Step, End, Stop, Leaf, Nest, Look, Listing, Rest, Go, ended, done, _◂_, follow, walk, run, enough}
 use Rattle.walk.specs.Owed.{Moves, ends, stops, leaf, nest, MovesOn, Unsure, soon, last, Keeps, alike, unsure, KeepsOn, Rules}
 use Rattle.walk.specs.Owed.{Beyond, last-end, refused, leaf-past, nest-past, Waits, stays, waits, WaitsOn, Prompt}
 use Rattle.walk.specs.Promised.{Stands}
-use Rattle.walk.specs.Room.{Answer, cut}
+use Rattle.walk.specs.Room.{Listed, cut}
 use Rattle.walk.proofs.Fuel.{run-fuel}
 use Rattle.walk.proofs.Cut.{cut-ended, cut-entries, cut-fits, cut-had-room, cut-larger}
 
@@ -26,12 +30,12 @@ waits-keeps (waits u b) = unsure u
 -- no entry, or a first one that owns bytes beyond the first len
 pub data Late (len : ℕ) : List Entry → Type 0 where
   nothing : Late len []
-  past : {e : Entry} {es : List Entry} → len < e .place + e .owned → Late len (e ∷ es)
+  past : {e : Entry} {es : List Entry} → len < e .block .place + e .block .owned → Late len (e ∷ es)
 
 -- of a beginning of len bytes, and of the whole; the entries that only the whole has are late, if the rules are prompt
 pub record Later {S : Type 0} (prompt : Type 0) (len : ℕ) (w w' : Listing S) : Type 0 where
   pub entries : Front (w .entries) (w' .entries)
-  pub settled : (w .number ≡ 0 → ⊥) → (w .number ≡ 2 → ⊥) → w ≡ w'
+  pub settled : (w .answer ≡ Accepted → ⊥) → (w .answer ≡ Refused EndsTooSoon → ⊥) → w ≡ w'
   pub late : prompt → Late len (drop (length (w .entries)) (w' .entries))
 
 module _ {S : Type 0} (prompt : Type 0) (main len len' : ℕ) (nested : 0 < main) where
@@ -47,22 +51,22 @@ module _ {S : Type 0} (prompt : Type 0) (main len len' : ℕ) (nested : 0 < main
 
   -- what the main level's end is: accepted, with nothing after it
   abbrev Top : ℕ → Rest S → Type 0
-  Top levels rest = levels ≡ main → (p : ℕ) (x : S) → rest p x ≡ ended 0 p x
+  Top levels rest = levels ≡ main → (p : ℕ) (x : S) → rest p x ≡ done p x
 
-  wait-past : {levels n p : ℕ} {k : Step S} → Unsure main levels n → Waits len main levels (Stop n p) k → Beyond len main levels k
+  wait-past : {levels : ℕ} {j k : Step S} → Unsure main levels j → Waits len main levels j k → Beyond len main levels k
   wait-past soon (stays k) = refused
   wait-past (last e) (stays k) = last-end e
   wait-past u (waits v b) = b
 
   follow-late :
       (go : Go S) (st : S) (at end levels : ℕ) (rest : Rest S) → Top levels rest
-      → {k : Step S} → Moves len' main at end levels k → Beyond len main levels k → Late len (follow go st end levels rest k .entries)
+      → {k : Step S} → Moves len' main at end levels k → Beyond len main levels k → Late len (follow go st at end levels rest k .entries)
   unfolding follow
-  follow-late go st at end levels rest top (ends {p} m) (last-end e) = rw (top e p st) nothing
-  follow-late go st at end levels rest top (stops m other) refused = nothing
-  follow-late go st at end levels rest top (leaf {e} m) (leaf-past h) = let far : len < e .place + e .owned = omega (arith, m .place, m .owned) in past far
+  follow-late go st at end levels rest top (ends m) (last-end e) = rw (top e at st) nothing
+  follow-late go st at end levels rest top (stops m) refused = nothing
+  follow-late go st at end levels rest top (leaf {e} m) (leaf-past h) = let far : len < e .block .place + e .block .owned = omega (arith, m .place, m .owned) in past far
   follow-late go st at end levels rest top (nest {e} m) (nest-past h) =
-      let far : len < e .place + e .owned = omega (arith, m .owns .place, m .owns .owned) in past far
+      let far : len < e .block .place + e .block .owned = omega (arith, m .owns .place, m .owns .owned) in past far
 
   follow-later :
       (go go' : Go S) (st : S) (at end levels : ℕ) (rest rest' : Rest S)
@@ -70,10 +74,10 @@ module _ {S : Type 0} (prompt : Type 0) (main len len' : ℕ) (nested : 0 < main
       → Later prompt len (go q a b l r) (go' q a b l r'))
       → levels ≤ main → Top levels rest → Top levels rest' → ((p : ℕ) (x : S) → Later prompt len (rest p x) (rest' p x))
       → {k k' : Step S} → Keeps main levels k k' → Moves len main at end levels k → Moves len' main at end levels k' → (prompt → Waits len main levels k k')
-      → Later prompt len (follow go st end levels rest k) (follow go' st end levels rest' k')
+      → Later prompt len (follow go st at end levels rest k) (follow go' st at end levels rest' k')
   unfolding follow
-  follow-later go go' st at end levels rest rest' ih low top top' on (alike (Stop zero p)) m m' waiting = on p st
-  follow-later go go' st at end levels rest rest' ih low top top' on (alike (Stop (suc n) p)) m m' waiting = later-refl _
+  follow-later go go' st at end levels rest rest' ih low top top' on (alike End) m m' waiting = on at st
+  follow-later go go' st at end levels rest rest' ih low top top' on (alike (Stop r p)) m m' waiting = later-refl _
   follow-later go go' st at end levels rest rest' ih low top top' on (alike (Leaf e next q)) (leaf m) m' waiting =
       step-later e (ih q next end levels rest rest' (m .within) low top top' on)
   follow-later go go' st at end levels rest rest' ih low top top' on (alike (Nest e inside q after)) (nest m) m' waiting =
@@ -81,14 +85,14 @@ module _ {S : Type 0} (prompt : Type 0) (main len len' : ℕ) (nested : 0 < main
       (λ p left. ih left after end levels rest rest' (m .within) low top top' on))
   follow-later go go' st at end levels rest rest' ih low top top' on (unsure soon) m m' waiting =
       record { entries = front; settled = λ _ b. absurd (b refl); late = λ b. follow-late go' st at end levels rest' top' m' (wait-past soon (waiting b)) }
-  follow-later go go' st at end levels rest rest' ih low top top' on (unsure {p} (last e)) m m' waiting =
-      rw (top e p st)
+  follow-later go go' st at end levels rest rest' ih low top top' on (unsure (last e)) m m' waiting =
+      rw (top e at st)
       (record { entries = front; settled = λ a _. absurd (a refl); late = λ b. follow-late go' st at end levels rest' top' m' (wait-past (last e) (waiting b)) })
 
   module _
       (look look' : Look S) (moves : MovesOn main len look) (moves' : MovesOn main len' look')
       (keeps : KeepsOn main look look') (waiting : prompt → WaitsOn main len look look') where
-    pub walk-later :
+    walk-later :
         (f : ℕ) (st : S) (at end levels : ℕ) (rest rest' : Rest S) → at ≤ end → levels ≤ main
         → Top levels rest → Top levels rest' → ((p : ℕ) (x : S) → Later prompt len (rest p x) (rest' p x))
         → Later prompt len (walk look f st at end levels rest) (walk look' f st at end levels rest')
@@ -107,19 +111,19 @@ cut-later {w} {w'} room more le l = record {
   entries = rw (cut-entries room w, cut-entries more w') (front-take (l .entries) room more le);
   settled = λ a b c.
       let fits = cut-had-room room w c in
-      let is : cut room w .number ≡ w .number = ap (λ x. x .number) (cut-fits room w fits) in
+      let is : cut room w .answer ≡ w .answer = ap (λ x. x .answer) (cut-fits room w fits) in
       let e : w ≡ w' = l .settled (λ z. a (is ∙ z)) (λ z. b (is ∙ z)) in
       cut-larger room more w le c ∙ ap (cut more) e;
 }
 
 -- ### Before the walk: a listing that ended at once
 
-pub ended-stands : {S : Type 0} (n p : ℕ) (st : S) (room more : ℕ) → Stands (cut room (ended n p st)) (cut more (ended n p st))
-ended-stands n p st room more =
-    rw (cut-ended room n p st, cut-ended more n p st) (record { entries = front; settled = λ _ _ _. refl })
+pub ended-stands : {S : Type 0} (a : Answer) (p : ℕ) (st : S) (room more : ℕ) → Stands (cut room (ended a p st)) (cut more (ended a p st))
+ended-stands a p st room more =
+    rw (cut-ended room a p st, cut-ended more a p st) (record { entries = front; settled = λ _ _ _. refl })
 
-pub soon-stands : {S : Type 0} (p : ℕ) (st : S) (room : ℕ) (b : Answer) → Stands (cut room (ended 2 p st)) b
-soon-stands p st room b = rw (cut-ended room 2 p st) (record { entries = front; settled = λ _ z _. absurd (z refl) })
+pub soon-stands : {S : Type 0} (p : ℕ) (st : S) (room : ℕ) (b : Listed) → Stands (cut room (ended (Refused EndsTooSoon) p st)) b
+soon-stands p st room b = rw (cut-ended room (Refused EndsTooSoon) p st) (record { entries = front; settled = λ _ z _. absurd (z refl) })
 
 -- ### The listing
 
@@ -128,10 +132,10 @@ module _ {S : Type 0} (main : ℕ) (look : List ℕ → Look S) (rules : Rules m
   unfolding run
   run-later =
       let long = enough (length (s ++ t)) at in
-      subst (λ (w : Listing S). Later (Prompt main look) (length s) w (walk (look (s ++ t)) long st at end main (ended 0)))
+      subst (λ (w : Listing S). Later (Prompt main look) (length s) w (walk (look (s ++ t)) long st at end main done))
       (run-fuel main (length s) (look s) (rules .moves s) long st at end main (omega (arith, length-append s t)) order (omega arith))
       (walk-later (Prompt main look) main (length s) (length (s ++ t)) (rules .nested) (look s) (look (s ++ t)) (rules .moves s) (rules .moves (s ++ t))
-      (rules .keeps s t) (λ b. b .waiting s t) long st at end main (ended 0) (ended 0) order (omega arith) (λ _ p x. refl) (λ _ p x. refl)
+      (rules .keeps s t) (λ b. b .waiting s t) long st at end main done done order (omega arith) (λ _ p x. refl) (λ _ p x. refl)
       (λ p x. later-refl (Prompt main look) main (length s) (length (s ++ t)) (rules .nested) _))
 
   pub prefix :

@@ -1,17 +1,21 @@
--- Bytes owned: the entries of any listing lie side by side, up to a place at or before its answer's; those of an accepted one reach the input's end.
+-- Bytes owned, so that no byte is left out or told twice: the entries of any listing lie side by side, up to a place at or before its
+-- answer's; those of an accepted one reach the input's end.
 use mathlib.Core.Path.{_≡_, refl, sym, subst}
 use mathlib.Core.List.{List, [], _∷_, _++_}
 use Prim.Native.Nat.{ℕ, zero, suc, _+_, _≤_}
 use native.Mathlib.Omega.{arith}
 use lib.ListN.{drop}
 use Rattle.laws.specs.All.{All, empty, both}
+use Rattle.answer.specs.declared.Answer.{Answer}
+use Rattle.answer.specs.declared.Answer.the-variants.{Accepted, TableFull}
+use Rattle.answer.proofs.Names.{not-accepted}
 use Rattle.entry.specs.declared.Entry.{Entry}
-use Rattle.walk.specs.Walk.{Stop, Look, run}
-use Rattle.walk.specs.Room.{Answer, cut}
-use Rattle.walk.specs.Owed.{Moves, ends, stops, MovesOn}
+use Rattle.walk.specs.Walk.{Step, Look, run}
+use Rattle.walk.specs.Room.{Listed, cut}
+use Rattle.walk.specs.Owed.{Moves, stops, MovesOn}
 use Rattle.walk.specs.Promised.{Tiles, none, next, total, Found, Full}
-use Rattle.walk.specs.Invariant.{Family, Invariant, Finished, Kept}
-use Rattle.walk.proofs.Cut.{plain, cut-case, cut-twelve}
+use Rattle.walk.specs.Invariant.{Family, Invariant, Says, at-end, by-rule, Finished, Kept}
+use Rattle.walk.proofs.Cut.{plain, cut-case, cut-table-full}
 use Rattle.walk.proofs.Invariant.{run-kept, cut-finished}
 
 -- ### Entries side by side
@@ -21,13 +25,13 @@ unfolding total
 tiles-total none = omega arith
 tiles-total (next h t) = omega (arith, tiles-total t)
 
-tiles-more : {a b c : ℕ} {es : List Entry} (e : Entry) → Tiles a es b → e .place ≡ b → b + e .owned ≡ c → Tiles a (es ++ e ∷ []) c
-tiles-more {b} e none h is = next h (subst (Tiles (b + e .owned) []) is none)
+tiles-more : {a b c : ℕ} {es : List Entry} (e : Entry) → Tiles a es b → e .block .place ≡ b → b + e .block .owned ≡ c → Tiles a (es ++ e ∷ []) c
+tiles-more {b} e none h is = next h (subst (Tiles (b + e .block .owned) []) is none)
 tiles-more e (next k t) h is = next k (tiles-more e t h is)
 
 -- up to the header of any of them
-tiles-before : {a c : ℕ} (es : List Entry) (e : Entry) (more : List Entry) → Tiles a (es ++ e ∷ more) c → Tiles a es (e .place)
-tiles-before [] e more (next h t) = subst (λ (a : ℕ). Tiles a [] (e .place)) h none
+tiles-before : {a c : ℕ} (es : List Entry) (e : Entry) (more : List Entry) → Tiles a (es ++ e ∷ more) c → Tiles a es (e .block .place)
+tiles-before [] e more (next h t) = subst (λ (a : ℕ). Tiles a [] (e .block .place)) h none
 tiles-before (x ∷ es) e more (next h t) = next h (tiles-before es e more t)
 
 pub tiles-drop : {a b : ℕ} {es : List Entry} → Tiles a es b → (n : ℕ) → (c : ℕ) × Tiles c (drop n es) b
@@ -36,20 +40,23 @@ tiles-drop {a} none (suc n) = (a, none)
 tiles-drop (next h t) (suc n) = tiles-drop t n
 
 -- none of them lies before their beginning
-pub tiles-above : {a b : ℕ} {es : List Entry} (m : ℕ) → m ≤ a → Tiles a es b → All (λ (e : Entry). m ≤ e .place) es
+pub tiles-above : {a b : ℕ} {es : List Entry} (m : ℕ) → m ≤ a → Tiles a es b → All (λ (e : Entry). m ≤ e .block .place) es
 tiles-above m h none = empty
-tiles-above m h (next {e} k t) = let low : m ≤ e .place = omega arith in both low (tiles-above m (omega arith) t)
+tiles-above m h (next {e} k t) = let low : m ≤ e .block .place = omega arith in both low (tiles-above m (omega arith) t)
 
 -- where the table is full: up to the answer's place
-full-tiles : {a c : ℕ} {all : List Entry} {room : ℕ} {r : Answer} → Tiles a all c → Full all room r → Tiles a (r .entries) (r .place)
+full-tiles : {a c : ℕ} {all : List Entry} {room : ℕ} {r : Listed} → Tiles a all c → Full all room r → Tiles a (r .entries) (r .place)
 full-tiles {a} {c} {r} t f =
     subst (Tiles a (r .entries)) (sym (f .place)) (tiles-before (r .entries) (f .first) (f .more) (subst (λ (l : List Entry). Tiles a l c) (f .is) t))
 
 -- ### A walk's
 
-stop-place : {S : Type 0} {len main at end levels n p : ℕ} → Moves {S = S} len main at end levels (Stop n p) → (at ≤ p) × (n ≡ 12 → ⊥)
-stop-place (ends m) = (omega (arith, m .place), λ z. absurd (omega arith))
-stop-place (stops m other) = (m, other)
+-- a look never says that the table is full, and its place is not before the one looked at
+says-place :
+    {S : Type 0} {len main at end levels p : ℕ} {a : Answer} {k : Step S}
+    → Says at a p k → Moves len main at end levels k → (at ≤ p) × (a ≡ TableFull → ⊥)
+says-place at-end m = (omega arith, λ z. not-accepted refl (sym z))
+says-place by-rule (stops m) = (m, λ z. let never : _≡_ {A = ℕ} 0 1 = cc in omega arith)
 
 module _ {S : Type 0} (main len : ℕ) (look : Look S) (moves : MovesOn main len look) where
   abbrev Tiled : ℕ → Family S
@@ -67,12 +74,12 @@ module _ {S : Type 0} (main len : ℕ) (look : Look S) (moves : MovesOn main len
     kept = run-kept main len look (Tiled at) moves (tiled at) st at end levels [] order low none
 
     -- the look that had the walk stop
-    last-look : let w = run look len st at end levels in (kept .stopped .at ≤ w .place) × (w .number ≡ 12 → ⊥)
+    last-look : let w = run look len st at end levels in (kept .stopped .at ≤ w .place) × (w .answer ≡ TableFull → ⊥)
     last-look =
         let s = kept .stopped in
-        stop-place (subst (Moves len main (s .at) (s .end) (s .levels)) (s .stops) (moves (s .state) (s .at) (s .end) (s .levels) (s .order) (s .low)))
+        says-place (s .says) (moves (s .state) (s .at) (s .end) (s .levels) (s .order) (s .low))
 
-    pub run-found : let w = run look len st at end levels in Found at (plain (w .number) (w .place) (w .entries))
+    pub run-found : let w = run look len st at end levels in Found at (plain (w .answer) (w .place) (w .entries))
     run-found = record { upto = kept .stopped .at; tiles = kept .stopped .holds; before = last-look .0 }
 
     pub cut-found : (room : ℕ) → Found at (cut room (run look len st at end levels))
@@ -80,13 +87,13 @@ module _ {S : Type 0} (main len : ℕ) (look : Look S) (moves : MovesOn main len
         let w = run look len st at end levels in
         cut-case (Found at) room w run-found (λ r _ f. record { upto = r .place; tiles = full-tiles (run-found .tiles) f; before = omega arith })
 
-    -- 12 says that the table is full, and the entries reach the header of the first that has no room
+    -- where the table is full, the entries reach the header of the first that has no room
     pub cut-full-tiles :
         (room : ℕ)
         → let w = run look len st at end levels in
-        cut room w .number ≡ 12 → Full (w .entries) room (cut room w) × Tiles at (cut room w .entries) (cut room w .place)
+        cut room w .answer ≡ TableFull → Full (w .entries) room (cut room w) × Tiles at (cut room w .entries) (cut room w .place)
     cut-full-tiles room h =
-        let f = cut-twelve room (run look len st at end levels) (last-look .1) h in (f, full-tiles (run-found .tiles) f)
+        let f = cut-table-full room (run look len st at end levels) (last-look .1) h in (f, full-tiles (run-found .tiles) f)
 
   -- a listing that is accepted at the main level reaches the input's end
   whole : (a end p : ℕ) (st : S) (es : List Entry) → Finished main len look (Tiled a) end main p st es → Tiles a es len × (p ≡ len)
@@ -94,6 +101,6 @@ module _ {S : Type 0} (main len : ℕ) (look : Look S) (moves : MovesOn main len
 
   module _ (st : S) (at end : ℕ) (order : at ≤ end) where
     pub cut-accepted :
-        (room : ℕ) → let r = cut room (run look len st at end main) in r .number ≡ 0 → Tiles at (r .entries) len × (r .place ≡ len)
+        (room : ℕ) → let r = cut room (run look len st at end main) in r .answer ≡ Accepted → Tiles at (r .entries) len × (r .place ≡ len)
     cut-accepted room accepted =
         whole at end _ _ _ (cut-finished main len look (Tiled at) end main room [] _ (kept st at end main order (omega arith)) accepted)

@@ -8,6 +8,7 @@ use lib.ListN.{length, length-append}
 use Rattle.laws.specs.Lists.{part}
 use Rattle.laws.proofs.Part.{part-longer}
 use Rattle.laws.proofs.Choice.{pick-yes, pick-no, pick-ind}
+use Rattle.answer.specs.declared.Refusal.the-variants.{EndsTooSoon}
 use Rattle.walk.specs.Walk.{Step, Stop}
 use Rattle.walk.specs.Unit.{unit}
 use Rattle.walk.specs.Owed.{soon, Beyond, refused, Waits, waits}
@@ -15,7 +16,7 @@ use Rattle.walk.specs.Owed.{soon, Beyond, refused, Waits, waits}
 -- ### A unit's answer
 
 module _ {S : Type 0} where
-  pub unit-soon : (s : List ℕ) (at n : ℕ) (judge : List ℕ → Step S) → length s < at + n → unit s at n judge ≡ Stop 2 at
+  pub unit-soon : (s : List ℕ) (at n : ℕ) (judge : List ℕ → Step S) → length s < at + n → unit s at n judge ≡ Stop EndsTooSoon at
   unfolding unit
   unit-soon s at n judge h = pick-yes _ _ _ (lt-ltb (length s) (at + n) h)
 
@@ -26,7 +27,7 @@ module _ {S : Type 0} where
   -- what holds of "ends too soon", and of the judgement where the unit is present, holds of the unit
   pub unit-ind :
       (P : Step S → Type 0) (s : List ℕ) (at n : ℕ) (judge : List ℕ → Step S)
-      → (length s < at + n → P (Stop 2 at)) → (at + n ≤ length s → P (judge (part s at n))) → P (unit s at n judge)
+      → (length s < at + n → P (Stop EndsTooSoon at)) → (at + n ≤ length s → P (judge (part s at n))) → P (unit s at n judge)
   unfolding unit
   unit-ind P s at n judge short there = pick-ind P _ _ _ (λ h. short (ltb-true (length s) (at + n) h)) (λ h. there (ltb-false (length s) (at + n) h))
 
@@ -35,7 +36,7 @@ module _ {S : Type 0} where
   -- a relation to a step k on more input, which is the unit where the unit was present already
   unit-to :
       (R : Step S → Step S → Type 0) (s t : List ℕ) (at n : ℕ) (judge judge' : List ℕ → Step S) (k : Step S)
-      → (length s < at + n → R (Stop 2 at) k) → ((xs : List ℕ) → R (judge xs) (judge' xs)) → (at + n ≤ length s → k ≡ unit (s ++ t) at n judge')
+      → (length s < at + n → R (Stop EndsTooSoon at) k) → ((xs : List ℕ) → R (judge xs) (judge' xs)) → (at + n ≤ length s → k ≡ unit (s ++ t) at n judge')
       → R (unit s at n judge) k
   unit-to R s t at n judge judge' k short rule is =
       unit-ind (λ (x : Step S). R x k) s at n judge short (λ here.

@@ -2,6 +2,7 @@
 pub mod Walk
 pub mod Room
 pub mod Unit
+pub mod Parents
 pub mod Owed
 pub mod Promised
 pub mod Invariant

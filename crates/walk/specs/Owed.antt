@@ -1,23 +1,24 @@
 -- What the rules owe the walk: facts of one step. What stands in Promised.antt follows for any rules that pay them.
 use mathlib.Core.Path.{_≡_}
 use mathlib.Core.List.{List, _++_}
-use Prim.Native.Nat.{ℕ, suc, _+_, _≤_, _<_}
+use Prim.Native.Nat.{ℕ, _+_, _≤_, _<_}
 use lib.ListN.{length}
+use Rattle.answer.specs.declared.Refusal.{Refusal}
+use Rattle.answer.specs.declared.Refusal.the-variants.{EndsTooSoon}
 use Rattle.entry.specs.declared.Entry.{Entry}
-use Rattle.walk.specs.Walk.{Step, Stop, Leaf, Nest, Look}
+use Rattle.walk.specs.Walk.{Step, End, Stop, Leaf, Nest, Look}
 
 -- ### A step moves on, and its entry owns what it passes
 
 -- a parent ends where the walk stands: inside at its end, at the main level at the input's end
-pub record Ends (len main at end levels p : ℕ) : Type 0 where
-  pub place : p ≡ at
+pub record Ends (len main at end levels : ℕ) : Type 0 where
   pub inside : levels < main → at ≡ end
   pub whole : levels ≡ main → at ≡ len
 
 -- an entry owns the bytes from its header up to `next`, all of them present and inside the parent
 pub record Owns (len at end : ℕ) (e : Entry) (next : ℕ) : Type 0 where
-  pub place : e .place ≡ at
-  pub owned : at + e .owned ≡ next
+  pub place : e .block .place ≡ at
+  pub owned : at + e .block .owned ≡ next
   pub on : at < next
   pub present : next ≤ len
   pub within : next ≤ end
@@ -28,24 +29,24 @@ pub record Opens (len at end levels : ℕ) (e : Entry) (inside after : ℕ) : Ty
   pub within : after ≤ end
   pub deep : 0 < levels
 
--- a refusal's place is the one looked at, or a later one; 12 is the room's own number, which no rule says
+-- a refusal's place is the one looked at, or a later one
 pub data Moves {S : Type 0} (len main at end levels : ℕ) : Step S → Type 0 where
-  ends : {p : ℕ} → Ends len main at end levels p → Moves len main at end levels (Stop 0 p)
-  stops : {n p : ℕ} → at ≤ p → (suc n ≡ 12 → ⊥) → Moves len main at end levels (Stop (suc n) p)
+  ends : Ends len main at end levels → Moves len main at end levels End
+  stops : {r : Refusal} {p : ℕ} → at ≤ p → Moves len main at end levels (Stop r p)
   leaf : {e : Entry} {next : ℕ} {q : S} → Owns len at end e next → Moves len main at end levels (Leaf e next q)
   nest : {e : Entry} {inside after : ℕ} {q : S} → Opens len at end levels e inside after → Moves len main at end levels (Nest e inside q after)
 
 -- ### More input keeps a step
 
--- an answer that more input may change: "ends too soon", and at the main level "accepted"
-pub data Unsure (main levels : ℕ) : ℕ → Type 0 where
-  soon : Unsure main levels 2
-  last : levels ≡ main → Unsure main levels 0
+-- a step that more input may change: "ends too soon", and at the main level the end
+pub data Unsure {S : Type 0} (main levels : ℕ) : Step S → Type 0 where
+  soon : {p : ℕ} → Unsure main levels (Stop EndsTooSoon p)
+  last : levels ≡ main → Unsure main levels End
 
 -- the step on a beginning of the input, and on the whole of it
 pub data Keeps {S : Type 0} (main levels : ℕ) : Step S → Step S → Type 0 where
   alike : (k : Step S) → Keeps main levels k k
-  unsure : {n p : ℕ} {k : Step S} → Unsure main levels n → Keeps main levels (Stop n p) k
+  unsure : {j k : Step S} → Unsure main levels j → Keeps main levels j k
 
 -- ### Both, for rules that look at an input, with `main` levels left at the main level
 
@@ -67,15 +68,15 @@ pub record Rules {S : Type 0} (main : ℕ) (look : List ℕ → Look S) : Type 0
 
 -- no entry here, or one that owns bytes beyond the first len
 pub data Beyond {S : Type 0} (len main levels : ℕ) : Step S → Type 0 where
-  last-end : {p : ℕ} → levels ≡ main → Beyond len main levels (Stop 0 p)
-  refused : {n p : ℕ} → Beyond len main levels (Stop (suc n) p)
+  last-end : levels ≡ main → Beyond len main levels End
+  refused : {r : Refusal} {p : ℕ} → Beyond len main levels (Stop r p)
   leaf-past : {e : Entry} {next : ℕ} {q : S} → len < next → Beyond len main levels (Leaf e next q)
   nest-past : {e : Entry} {inside after : ℕ} {q : S} → len < inside → Beyond len main levels (Nest e inside q after)
 
 -- the step on a beginning of len bytes, and on the whole: where the first may change, the second needs more than these bytes
 pub data Waits {S : Type 0} (len main levels : ℕ) : Step S → Step S → Type 0 where
   stays : (k : Step S) → Waits len main levels k k
-  waits : {n p : ℕ} {k : Step S} → Unsure main levels n → Beyond len main levels k → Waits len main levels (Stop n p) k
+  waits : {j k : Step S} → Unsure main levels j → Beyond len main levels k → Waits len main levels j k
 
 abbrev pub WaitsOn : {S : Type 0} → ℕ → ℕ → Look S → Look S → Type 0
 WaitsOn {S} main len look look' =

@@ -5,8 +5,9 @@ use lib.Dec.{ltb}
 use lib.ListN.{length}
 use Rattle.laws.specs.Choice.{pick}
 use Rattle.laws.specs.Lists.{part}
+use Rattle.answer.specs.declared.Refusal.the-variants.{EndsTooSoon}
 use Rattle.walk.specs.Walk.{Step, Stop}
 
 -- the n bytes of s at a place are judged, or the answer is "ends too soon" there
 unfoldable pub unit : {S : Type 0} → List ℕ → ℕ → ℕ → (List ℕ → Step S) → Step S
-unit s at n judge = pick (ltb (length s) (at + n)) (Stop 2 at) (judge (part s at n))
+unit s at n judge = pick (ltb (length s) (at + n)) (Stop EndsTooSoon at) (judge (part s at n))

@@ -3,7 +3,7 @@ use mathlib.Core.Path.{_≡_, refl}
 use mathlib.Core.List.{map}
 use Rattle.laws.specs.Choice.{pick}
 use Rattle.packet.specs.Stream.{packetOf, fitted, lookOf, meaningWith, meaning}
-use Rattle.packet.specs.Packing.{three, otherThan, until, nextOf, packedWith, packed}
+use Rattle.packer.specs.Packing.{three, otherThan, until, nextOf, packedWith, packed}
 use Rattle.rect.specs.Rows.{rowOf}
 use Rattle.worked_rows.specs.Table.{worked, rows, readings}
 

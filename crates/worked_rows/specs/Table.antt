@@ -3,7 +3,7 @@ use mathlib.Core.List.{List, [], _∷_, _++_}
 use Prim.Native.Nat.{ℕ}
 use lib.ListN.{replicate}
 use Rattle.packet.specs.Stream.{Outcome, bytes, refused, meaning}
-use Rattle.packet.specs.Packing.{packed}
+use Rattle.packer.specs.Packing.{packed}
 use Rattle.rect.specs.Rows.{rowOf}
 
 pub data Row : Type 0 where

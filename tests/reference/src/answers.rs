@@ -12,9 +12,6 @@ use crate::psp::views::Lender;
 const BEFORE: u8 = 0xEE;
 const NUMBER_BEFORE: u32 = u32::from_le_bytes([BEFORE; 4]);
 
-/// Numbers of the table past the room: too few for one entry more.
-const TABLE_REST: usize = 5;
-
 /// A line without its line feed, and the answer number in it, if its kind
 /// has one.
 pub struct Answer {
@@ -38,6 +35,7 @@ fn hash(numbers: &[u32]) -> u32 {
 pub fn answer(library: &dyn Library, case: &Case) -> Answer {
     match case {
         Case::Listing { room, input } => listing(library, *room as usize, input),
+        Case::Count { room, input } => count(library, *room as usize, input),
         Case::PaletteView { room, ramp, input } => {
             palette(library, *room as usize, *ramp as usize, input)
         }
@@ -49,10 +47,7 @@ pub fn answer(library: &dyn Library, case: &Case) -> Answer {
             let (number, layer) = library.layer_facts(input, *room as usize, *k);
             numbered(number, layer_line(number, &layer))
         }
-        Case::LayerName { room, k, input } => {
-            let (number, start, length) = library.layer_name(input, *room as usize, *k);
-            numbered(number, format!("N {} {} {}", number, start, length))
-        }
+        Case::LayerName { room, k, input } => name(library, *room as usize, *k, input),
         _ => answer_without_file(library, case),
     }
 }
@@ -134,14 +129,17 @@ fn listed(kind: char, listed: Listed, hashes: &[u32]) -> Answer {
     numbered(number, line)
 }
 
+/// The table has some numbers past the room, too few for one entry more, and
+/// ends anywhere in it.
 fn listing(library: &dyn Library, room: usize, input: &[u8]) -> Answer {
-    let mut table = vec![NUMBER_BEFORE; room * ENTRY_NUMBERS + TABLE_REST];
+    let rest = input.len() % ENTRY_NUMBERS;
+    let mut table = vec![NUMBER_BEFORE; room * ENTRY_NUMBERS + rest];
     let got = library.list(input, &mut table);
     listed('L', got, &[hash(&table)])
 }
 
 /// A listing in a table of so many numbers and in so many records. No case
-/// asks for one: the answers go by listings.
+/// asks for one: tests/linked does, beside each listing.
 pub fn records(library: &dyn Library, numbers: usize, room: usize, input: &[u8]) -> Answer {
     let mut table = vec![NUMBER_BEFORE; numbers];
     let mut records: Vec<Record> = vec![[NUMBER_BEFORE; ENTRY_NUMBERS]; room];
@@ -155,14 +153,38 @@ pub fn count(library: &dyn Library, room: usize, input: &[u8]) -> Answer {
     listed('T', library.count(input, room), &[])
 }
 
+/// The part in numbers; then the number that comes with the part itself, and a
+/// hash of the part.
 fn palette(library: &dyn Library, room: usize, ramp: usize, input: &[u8]) -> Answer {
-    let view = library.palette(input, room, &vec![BEFORE; ramp]);
-    let which = match view.lender {
-        Lender::Input => 0,
-        Lender::Ramp => 1,
+    let ramp = vec![BEFORE; ramp];
+    let view = library.palette(input, room, &ramp);
+    let (which, lent) = match view.lender {
+        Lender::Input => (0, input),
+        Lender::Ramp => (1, &ramp[..]),
     };
-    let line = format!("V {} {} {} {}", view.number, which, view.start, view.length);
+    let line = format!(
+        "V {} {} {} {}{}",
+        view.number,
+        which,
+        view.start,
+        view.length,
+        shown(view.number, lent, view.start, view.length)
+    );
     numbered(view.number, line)
+}
+
+fn name(library: &dyn Library, room: usize, k: u32, input: &[u8]) -> Answer {
+    let (number, start, length) = library.layer_name(input, room, k);
+    let shown = shown(number, input, start, length);
+    numbered(
+        number,
+        format!("N {} {} {}{}", number, start, length, shown),
+    )
+}
+
+fn shown(number: u32, lent: &[u8], start: u64, length: u64) -> String {
+    let part = &lent[start as usize..][..length as usize];
+    format!(" {} {}", number, fnv(part))
 }
 
 fn plane(kind: char, got: PlaneAnswer, buffer: &[u8]) -> Answer {

@@ -6,7 +6,8 @@ use std::io::{self, Read, Write};
 
 use crate::psp::rectangle::Rectangle;
 
-pub const PAYLOAD_LIMIT: usize = 65_536;
+/// Longest payload that a program has room for.
+pub const PAYLOAD_LIMIT: usize = 4_194_304;
 pub const DESTINATION_LIMIT: u32 = 20_000;
 pub const ROOM_LIMIT: u32 = 512;
 
@@ -23,6 +24,11 @@ pub struct Stored {
 #[derive(Clone, Debug, PartialEq)]
 pub enum Case {
     Listing {
+        room: u32,
+        input: Vec<u8>,
+    },
+    /// A listing that stores nothing.
+    Count {
         room: u32,
         input: Vec<u8>,
     },
@@ -80,6 +86,7 @@ impl Case {
     pub fn kind(&self) -> u8 {
         match self {
             Case::Listing { .. } => b'L',
+            Case::Count { .. } => b'T',
             Case::Plane { .. } => b'P',
             Case::Packets { .. } => b'U',
             Case::Pack { .. } => b'K',
@@ -96,9 +103,9 @@ impl Case {
     pub fn payload(&self) -> Vec<u8> {
         let mut to = Payload::default();
         match self {
-            Case::Listing { room, input } | Case::ImageFacts { room, input } => {
-                to.u32(*room).string(input)
-            }
+            Case::Listing { room, input }
+            | Case::Count { room, input }
+            | Case::ImageFacts { room, input } => to.u32(*room).string(input),
             Case::PaletteView { room, ramp, input } => to.u32(*room).u32(*ramp).string(input),
             Case::LayerFacts { room, k, input } | Case::LayerName { room, k, input } => {
                 to.u32(*room).u32(*k).string(input)
@@ -142,7 +149,7 @@ impl Case {
     pub fn decode(kind: u8, payload: &[u8]) -> Option<Case> {
         let mut from = Taker { rest: payload };
         let case = match kind {
-            b'L' | b'V' | b'F' | b'Y' | b'N' => Case::of_file(kind, &mut from)?,
+            b'L' | b'T' | b'V' | b'F' | b'Y' | b'N' => Case::of_file(kind, &mut from)?,
             _ => Case::of_parts(kind, &mut from)?,
         };
         if from.rest.is_empty() {
@@ -156,13 +163,14 @@ impl Case {
     fn of_file(kind: u8, from: &mut Taker) -> Option<Case> {
         let room = from.u32()?;
         let second = match kind {
-            b'L' | b'F' => 0,
+            b'L' | b'T' | b'F' => 0,
             _ => from.u32()?,
         };
         let input = from.string()?;
         let (ramp, k) = (second, second);
         Some(match kind {
             b'L' => Case::Listing { room, input },
+            b'T' => Case::Count { room, input },
             b'V' => Case::PaletteView { room, ramp, input },
             b'F' => Case::ImageFacts { room, input },
             b'Y' => Case::LayerFacts { room, k, input },
@@ -225,7 +233,7 @@ impl Case {
         from.read_exact(&mut length)?;
         let length = u32::from_le_bytes(length) as usize;
         if length > PAYLOAD_LIMIT {
-            return Err(broken("a payload over 65,536 bytes"));
+            return Err(broken("a payload over 4,194,304 bytes"));
         }
         let mut payload = vec![0; length];
         from.read_exact(&mut payload)?;

@@ -2,16 +2,20 @@
 //! gives, and between them random ones, valid and damaged. A seed and a count
 //! give the same cases everywhere.
 
+pub mod beginnings;
 mod canvases;
 mod channels;
 mod damage;
 mod faults;
 mod fields;
+pub mod known;
+pub mod many;
 mod packing;
 mod pictures;
 mod planes;
 mod products;
 mod rectangles;
+pub mod rows;
 mod streams;
 mod sweeps;
 mod values;
@@ -36,6 +40,9 @@ pub fn systematic() -> Vec<Case> {
     let mut cases = Vec::new();
     sweeps::all(&mut cases);
     products::all(&mut cases);
+    known::all(&mut cases);
+    rows::all(&mut cases);
+    beginnings::all(&mut cases);
     channels::all(&mut cases);
     streams::all(&mut cases);
     planes::all(&mut cases);
@@ -108,11 +115,15 @@ fn facts(random: &mut Random, turn: u64) -> Case {
 }
 
 /// Every kind that lists an input, with facts and name of layer k.
-pub fn every_listing(room: u32, k: u32, input: &[u8]) -> [Case; 5] {
+pub fn every_listing(room: u32, k: u32, input: &[u8]) -> [Case; 6] {
     let input = || input.to_vec();
     let ramp = 1_024;
     [
         Case::Listing {
+            room,
+            input: input(),
+        },
+        Case::Count {
             room,
             input: input(),
         },

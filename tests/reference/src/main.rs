@@ -25,6 +25,7 @@ use library::Reference;
 
 const USAGE: &str = "\
 reference cases SEED COUNT > cases        writes the first COUNT cases of a seed
+reference many > cases                    writes cases of 300,000 blocks
 reference answers < cases                 prints the expected answer lines
 reference compare SEED COUNT < answers    compares another program's lines with the expected ones
 reference pick SEED INDEX > case          writes one case, counted from 0
@@ -54,6 +55,7 @@ fn main() {
 fn run(words: &[&str]) -> io::Result<bool> {
     match *words {
         ["cases", seed, count] => write_cases(number(seed)?, number(count)?),
+        ["many"] => write_many(),
         ["answers"] => print_answers(),
         ["compare", seed, count] => compare(number(seed)?, number(count)?),
         ["pick", seed, index] => pick(number(seed)?, number(index)?),
@@ -82,6 +84,15 @@ fn output() -> BufWriter<io::Stdout> {
 fn write_cases(seed: u64, count: u64) -> io::Result<bool> {
     let mut output = output();
     cases::generate(seed, count, |case| case.write(&mut output))?;
+    output.flush()?;
+    Ok(true)
+}
+
+fn write_many() -> io::Result<bool> {
+    let mut output = output();
+    for case in cases::many::cases() {
+        case.write(&mut output)?;
+    }
     output.flush()?;
     Ok(true)
 }

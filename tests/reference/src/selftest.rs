@@ -2,6 +2,7 @@
 //! check for each point that its text leaves open or that is easily missed.
 
 mod generator;
+mod known;
 mod listing;
 mod planes;
 mod views;
@@ -18,6 +19,7 @@ pub fn report() -> bool {
     };
     worked::all(&mut checks);
     listing::all(&mut checks);
+    known::all(&mut checks);
     planes::all(&mut checks);
     views::all(&mut checks);
     generator::all(&mut checks);

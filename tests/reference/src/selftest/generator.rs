@@ -47,6 +47,7 @@ fn one(checks: &mut Checks, case: &Case) {
 fn sizes(case: &Case) -> (u32, usize, u32) {
     match case {
         Case::Listing { room, input }
+        | Case::Count { room, input }
         | Case::PaletteView { room, input, .. }
         | Case::ImageFacts { room, input }
         | Case::LayerFacts { room, input, .. }

@@ -3,7 +3,7 @@ use Prim.Native.Nat.{ℕ, _+_, _*_, _≤_}
 use native.Mathlib.Nat.{mul-le-mul}
 use native.Mathlib.Omega.{arith}
 use borrow.Author.Needs.{needs}
-use Rattle.little.proofs.Signed.{back}
+use Rattle.endian.proofs.Signed.{back}
 use Rattle.rect.specs.Rect.{sideOf}
 use Rattle.canvas.proofs.clip.first_byte.Statement.{statement}
 use Rattle.canvas.proofs.clip.first_byte.Tie as tie

@@ -49,7 +49,7 @@ row-bytes-requires c κs =
     (omega (arith, c .width .ensures .0), omega arith)
 
 row-is : (c : tie.After-row-bytes) → c .row-bytes .result ≡ rowOf (widthOf (c .before .before .before .before .before .before .before .before .before .before .args .r)) 8
-row-is c = c .row-bytes .ensures .0 ∙ ap (λ (w : ℕ). rowOf w 8) (c .before .width .ensures .0)
+row-is c = c .row-bytes .ensures ∙ ap (λ (w : ℕ). rowOf w 8) (c .before .width .ensures .0)
 
 put-requires : tie.Need-put-requires
 put-requires c κs =

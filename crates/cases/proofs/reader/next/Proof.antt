@@ -1,3 +1,4 @@
+-- What is read goes to a beginning of the buffer, which has room for it.
 use mathlib.Core.Path.{sym}
 use native.Mathlib.Omega.{arith}
 use lib.Seq.{length-take-le}

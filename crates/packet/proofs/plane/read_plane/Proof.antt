@@ -1,4 +1,4 @@
--- `packet::channel::read_plane` meets its contract: each return by the tests that led there.
+-- `packet::plane::read_plane` meets its contract: each return by the tests that led there.
 use mathlib.Core.Path.{sym, ap, _∙_}
 use mathlib.Core.List.{List}
 use Prim.Native.Nat.{ℕ, _+_, _≤_}

@@ -1,9 +1,10 @@
 -- `packet::reader::unpack` meets its contract: with no room, written by the second pass, and refused by the first.
-use mathlib.Core.Path.{_≡_, sym, ap, _∙_}
+use mathlib.Core.Path.{sym, ap, _∙_}
 use borrow.Author.Needs.{needs}
 use borrow.Author.Tests.{lt-ltb}
 use Rattle.laws.proofs.Choice.{pick-yes}
-use Rattle.packet.specs.Reading.{Paper, unpacked}
+use Rattle.packet.specs.declared.told.Plane.{Plane}
+use Rattle.packet.specs.Reading.{unpacked}
 use Rattle.packet.proofs.Answers.{unpacked-is, unpacked-refused}
 use Rattle.packet.proofs.reader.unpack.Statement.{statement}
 use Rattle.packet.proofs.reader.unpack.Tie as tie
@@ -14,23 +15,24 @@ returns c = sym (pick-yes _ _ _ (lt-ltb _ _ (c .if1 .taken)))
 
 write-requires : tie.Need-write-requires
 write-requires c κs =
-    let asked = c .before in
-    let tested = asked .before .before in (
+    let asked = c .before .before .before in
+    let tested = asked .before in (
       tested .before .if1 .left,
-      sym (asked .before .number .ensures ∙ ap (λ (p : Paper). p .number) (tested .test .ensures)) ∙ asked .if2 .taken,
+      sym (ap (λ (p : Plane). p .number) (asked .told .ensures ∙ tested .test .ensures)) ∙ c .before .if2 .taken,
     )
 
 returns-2 : tie.Need-returns-2
 returns-2 c =
     let call = c .before .before in
-    let tested = call .before .before .before .before in
+    let tested = call .before .before .before .before .before in
     unpacked-is _ _ _ (tested .test .result) _ (tested .before .if1 .left) (tested .test .ensures) (call .write .ensures)
 
 returns-3 : tie.Need-returns-3
 returns-3 c =
-    let tested = c .before .before in
+    let asked = c .before .before in
+    let tested = asked .before in
     unpacked-refused _ _ _ (tested .test .result) (tested .before .if1 .left)
-    (λ e. c .if2 .left (c .before .number .ensures ∙ e)) (tested .test .ensures)
+    (λ e. c .if2 .left (ap (λ (p : Plane). p .number) (asked .told .ensures) ∙ e)) (tested .test .ensures)
 
 pub unpack-spec : {M : Type 1} → statement M
 unpack-spec =

@@ -13,7 +13,7 @@ unfolding planeOf
 is c =
     let bits = c .before .before .before .args .bits in
     ap₂ (λ (row h : ℕ). row * h)
-    (c .before .row-bytes .ensures .0 ∙ ap (λ (w : ℕ). rowOf w bits) (c .before .before .width .ensures .0)) (c .height .ensures .0)
+    (c .before .row-bytes .ensures ∙ ap (λ (w : ℕ). rowOf w bits) (c .before .before .width .ensures .0)) (c .height .ensures .0)
 
 fits : (c : tie.After-height) → c .before .row-bytes .result * c .height .result ≤ planeLimit
 fits c =

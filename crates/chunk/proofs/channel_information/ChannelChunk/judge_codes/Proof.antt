@@ -1,6 +1,6 @@
 use mathlib.Core.Path.{refl, _∙_}
 use Rattle.chunk.specs.ChannelInformation.{codesFault}
-use Rattle.chunk.proofs.Earliest.{next}
+use Rattle.attributes.proofs.Earliest.{next}
 use borrow.Author.Needs.{needs}
 use Rattle.chunk.proofs.channel_information.ChannelChunk.judge_codes.Statement.{statement}
 use Rattle.chunk.proofs.channel_information.ChannelChunk.judge_codes.Tie as tie

@@ -2,7 +2,7 @@ use mathlib.Core.Path.{refl, _∙_, ap}
 use mathlib.Core.Bool.{_&&_}
 use lib.Dec.{leb}
 use Rattle.chunk.specs.ColorPalette.{paletteFault}
-use Rattle.chunk.proofs.Earliest.{next}
+use Rattle.attributes.proofs.Earliest.{next}
 use borrow.Author.Needs.{needs}
 use Rattle.chunk.proofs.color_palette.PaletteChunk.judge.Statement.{statement}
 use Rattle.chunk.proofs.color_palette.PaletteChunk.judge.Tie as tie

@@ -8,7 +8,7 @@ use Rattle.chunk.proofs.layer_information.LayerChunk.decode.Tie as tie
 returns : tie.Need-returns
 returns c =
     let start = c .before .before .before .args in
-    c .of .ensures ∙ ap layerOf (lent (start .file .now) (start .at) 375)
+    c .of .ensures ∙ ap layerOf (lent (start .file .now) (start .at) _)
 
 pub decode-spec : {M : Type 1} → statement M
 decode-spec = tie.close (tie.spec (λ c. search needs) (λ c. search needs) (λ c. search needs) (λ c. search needs) (λ c κs. search needs) returns)

@@ -1,6 +1,6 @@
 use mathlib.Core.Path.{refl, _∙_}
 use Rattle.chunk.specs.LayerInformation.{layerFault}
-use Rattle.chunk.proofs.Earliest.{next}
+use Rattle.attributes.proofs.Earliest.{next}
 use borrow.Author.Needs.{needs}
 use Rattle.chunk.proofs.layer_information.LayerChunk.judge.Statement.{statement}
 use Rattle.chunk.proofs.layer_information.LayerChunk.judge.Tie as tie

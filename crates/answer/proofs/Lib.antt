@@ -1,0 +1,3 @@
+-- Laws of answers by name.
+pub mod Names
+pub mod OneOutcome

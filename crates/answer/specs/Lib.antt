@@ -1,0 +1,2 @@
+-- Answers by name, and on paper.
+pub mod Answers

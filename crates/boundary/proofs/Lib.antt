@@ -1,2 +1,0 @@
--- Laws of answers as numbers.
-pub mod OneOutcome

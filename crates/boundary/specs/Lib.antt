@@ -1,2 +1,0 @@
--- What numbers tell of an answer.
-pub mod Paper

@@ -1,0 +1,2 @@
+-- Numbers of so many bytes.
+pub mod Number

@@ -1,0 +1,2 @@
+-- Laws about the kinds of block.
+pub mod Judging

@@ -1,0 +1,3 @@
+-- Each kind of block, once its header has passed.
+pub mod Headed
+pub mod Blocks

@@ -1,0 +1,80 @@
+-- Every listing: each entry is right by those before it, and an accepted file is complete. The views and the promises cite these.
+use mathlib.Core.Path.{_≡_, refl, sym, ap, _∙_}
+use mathlib.Core.Bool.{true, false}
+use mathlib.Core.List.{List, []}
+use Prim.Native.Nat.{ℕ, _<_}
+use native.Mathlib.Omega.{arith}
+use lib.ListN.{length, take, getD}
+use Rattle.laws.proofs.Choice.{pick-ind}
+use Rattle.answer.specs.declared.Answer.{Answer}
+use Rattle.answer.specs.declared.Answer.the-variants.{Accepted}
+use Rattle.answer.specs.Answers.{isAccepted}
+use Rattle.answer.proofs.Names.{not-accepted}
+use Rattle.entry.specs.declared.Entry.{Entry}
+use Rattle.entry.specs.Entry.{block, plain}
+use Rattle.walk.specs.Walk.{Listing, ended, run}
+use Rattle.walk.specs.Room.{Listed, cut}
+use Rattle.walk.proofs.Invariant.{run-kept, cut-finished}
+use Rattle.walk.proofs.EachEntry.{cut-each}
+use Rattle.walk.proofs.Cut.{cut-ended}
+use Rattle.walk.proofs.Parents.{each-holds}
+use Rattle.headers.specs.FileHeader.{fileHeaderSize}
+use Rattle.headers.specs.Places.{imagePlace}
+use Rattle.chunk.specs.Heads.{imageHead}
+use Rattle.memory.specs.declared.state.State.{State}
+use Rattle.memory.specs.Parent.{main}
+use Rattle.memory.specs.State.{start}
+use Rattle.block.specs.Step.{stepAt}
+use Rattle.block.proofs.Owed.{moves}
+use Rattle.listing.specs.Listing.{headOf, beyond, listing, listed}
+use Rattle.listing.specs.Right as right
+use Rattle.listing.specs.Right.{isLayer, layersIn, Full, Right}
+use Rattle.listing.proofs.StateMeaning.{CameTo, fresh, Whole, whole, kept, rights, looked}
+
+-- behind a good header the blocks are walked, and no other header is accepted
+by-head :
+    (P : Listing State → Type 0) (s : List ℕ) → P (run (stepAt s) (length s) start fileHeaderSize beyond main)
+    → ((a : Answer) (p : ℕ) → isAccepted a ≡ false → P (ended a p start)) → P (listing s)
+unfolding listing
+by-head P s good bad = pick-ind P (isAccepted (headOf s .answer)) _ _ (λ _. good) (λ no. bad _ _ no)
+
+pub each-right :
+    (s : List ℕ) (room : ℕ)
+    → let es = listed s room .entries in (k : ℕ) (d : Entry) → k < length es → Right s (take k es) (getD es k d)
+each-right s room =
+    by-head
+    (λ (w : Listing State). let es = cut room w .entries in (k : ℕ) (d : Entry) → k < length es → Right s (take k es) (getD es k d)) s
+    (cut-each main (length s) (stepAt s) (moves s) (CameTo s) (kept s) (Right s) (rights s) start fileHeaderSize beyond main (omega arith) (omega arith) fresh room)
+    (λ a p no k d h. let none = ap (λ (x : Listed). length (x .entries)) (cut-ended room a p start) in absurd (omega (arith, none)))
+
+pub image-first :
+    (s : List ℕ) (room : ℕ)
+    → let es = listed s room .entries in (d : Entry) → 0 < length es → getD es 0 d ≡ plain (block 0 0 0 imagePlace imageHead)
+image-first s room d h = each-right s room 0 d h .first refl
+
+-- a layer's number is the count of layers before it
+pub layers-numbered :
+    (s : List ℕ) (room : ℕ)
+    → let es = listed s room .entries in (k : ℕ) (d : Entry) → k < length es → isLayer (getD es k d) ≡ true → getD es k d .layer ≡ layersIn (take k es)
+layers-numbered s room k d h z = ap (λ (e : Entry). e .layer) (each-right s room k d h .layer z .is)
+
+accepted-whole : (s : List ℕ) (room : ℕ) → listed s room .answer ≡ Accepted → Whole s (listed s room .entries)
+accepted-whole s room =
+    by-head (λ (w : Listing State). cut room w .answer ≡ Accepted → Whole s (cut room w .entries)) s
+    (λ good.
+    let k = run-kept main (length s) (stepAt s) (CameTo s) (moves s) (kept s) start fileHeaderSize beyond main [] (omega arith) (omega arith) fresh in
+    let f = cut-finished main (length s) (stepAt s) (CameTo s) beyond main room [] _ k good in
+    whole s refl (f .holds) (looked s (omega arith) (f .stops)))
+    (λ a p no h. let same = ap (λ (x : Listed). x .answer) (cut-ended room a p start) in absurd (not-accepted no (sym same ∙ h)))
+
+-- an accepted file has its bank, its palette if it is paletted, as many layers as its image announces, and each entry is full
+pub accepted-complete : (s : List ℕ) (room : ℕ) → listed s room .answer ≡ Accepted → right.Accepted s (listed s room .entries)
+accepted-complete s room good =
+    let w = accepted-whole s room good in
+    record {
+      image = w .image;
+      banks = w .banks;
+      layers = w .layers;
+      palettes = w .palettes;
+      full = each-holds (Full s) (listed s room .entries) (λ j d h. each-right s room j d h .closed) (w .closed);
+    }

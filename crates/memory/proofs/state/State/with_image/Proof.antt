@@ -1,0 +1,11 @@
+use borrow.Author.Needs.{needs}
+use Rattle.memory.proofs.state.State.with_image.Statement.{statement}
+use Rattle.memory.proofs.state.State.with_image.Tie as tie
+
+returns : tie.Need-returns
+returns c =
+    let st = c .before .args .self in
+    λ i. record { image = c .by .ensures i; palette = st .palette; bank = st .bank; found = st .found; layer = st .layer }
+
+pub with-image-spec : {M : Type 1} → statement M
+with-image-spec = tie.close (tie.spec (λ c κs. search needs) returns)

@@ -1,0 +1,65 @@
+// The bitmap and channel codes of a layer's channels: which are expected, and which have come.
+ghost use mathlib.Core.Path.{_≡_};
+ghost use Rattle.memory.specs.Codes.{isExpected, hasCodes, withCodes, hasColours};
+
+// A channel of each code has come: bitmap 0 with channels 0 to 3, bitmap 1, bitmap 2.
+pub struct Codes {
+    pub composite: bool,
+    pub red: bool,
+    pub green: bool,
+    pub blue: bool,
+    pub transparency: bool,
+    pub user: bool,
+}
+
+// Colours are bitmap 0: channels 1 to 3 at depth 24, else 0. Masks have channel 0.
+pub fn expected(depth: u16, bitmap: u16, channel: u16) -> bool
+    ensures { λ r. ⌜ r ≡ isExpected depth bitmap channel ⌝ }
+{
+    ((bitmap == 0)
+        & (((depth == 24) & (1 <= channel) & (channel <= 3)) | ((depth != 24) & (channel == 0))))
+        | (((bitmap == 1) | (bitmap == 2)) & (channel == 0))
+}
+
+impl Codes {
+    // No channel has come.
+    pub const NONE: Codes = Codes {
+        composite: false,
+        red: false,
+        green: false,
+        blue: false,
+        transparency: false,
+        user: false,
+    };
+
+    pub fn has(self, bitmap: u16, channel: u16) -> bool
+        ensures { λ r. ⌜ r ≡ hasCodes self bitmap channel ⌝ }
+    {
+        ((bitmap == 0) & (channel == 0) & self.composite)
+            | ((bitmap == 0) & (channel == 1) & self.red)
+            | ((bitmap == 0) & (channel == 2) & self.green)
+            | ((bitmap == 0) & (channel == 3) & self.blue)
+            | ((bitmap == 1) & self.transparency)
+            | ((bitmap == 2) & self.user)
+    }
+
+    pub fn with(self, bitmap: u16, channel: u16) -> Codes
+        ensures { λ r. ⌜ r ≡ withCodes self bitmap channel ⌝ }
+    {
+        Codes {
+            composite: self.composite | ((bitmap == 0) & (channel == 0)),
+            red: self.red | ((bitmap == 0) & (channel == 1)),
+            green: self.green | ((bitmap == 0) & (channel == 2)),
+            blue: self.blue | ((bitmap == 0) & (channel == 3)),
+            transparency: self.transparency | (bitmap == 1),
+            user: self.user | (bitmap == 2),
+        }
+    }
+
+    // All colour channels of a layer have come.
+    pub fn coloured(self, depth: u16) -> bool
+        ensures { λ r. ⌜ r ≡ hasColours self depth ⌝ }
+    {
+        ((depth == 24) & self.red & self.green & self.blue) | ((depth != 24) & self.composite)
+    }
+}

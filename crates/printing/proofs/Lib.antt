@@ -1,0 +1,2 @@
+-- Laws of signed numbers as they are printed.
+pub mod Below

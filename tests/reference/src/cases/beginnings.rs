@@ -1,0 +1,61 @@
+//! Every beginning of files that `sweeps` does not have: a palette with both
+//! masks, with ample room and with a table that fills up on the way, and a
+//! layer that has a channel twice. More input never takes anything back, and
+//! the checks of this program hold the reference to that on each of them.
+
+use crate::case::{Case, ROOM_LIMIT};
+use crate::psp::rectangle::Rectangle;
+use crate::write::{Image, InBank, Layer, Picture};
+
+pub fn all(cases: &mut Vec<Case>) {
+    for (room, whole) in files() {
+        for length in 0..=whole.len() {
+            cases.push(Case::Listing {
+                room,
+                input: whole[..length].to_vec(),
+            });
+        }
+    }
+}
+
+/// Files, each with a room.
+pub fn files() -> [(u32, Vec<u8>); 3] {
+    [
+        (ROOM_LIMIT, masks().bytes()),
+        (3, masks().bytes()),
+        (ROOM_LIMIT, twice().bytes()),
+    ]
+}
+
+fn image(grey: bool) -> Image {
+    Image {
+        width: 5,
+        height: 5,
+        ..Image::new(8, grey)
+    }
+}
+
+/// A colour plane of five rows of eight bytes, a transparency mask alike, an
+/// empty user mask; two skipped blocks behind the bank.
+fn masks() -> Picture {
+    let layer = Layer::new(Rectangle::new(0, 0, 5, 5))
+        .named("masks")
+        .with(0, 0, vec![0; 40])
+        .with(1, 0, vec![0; 40])
+        .with(2, 0, Vec::new());
+    Picture::new(image(false))
+        .palette(vec![[0; 4], [0; 4]])
+        .bank(vec![InBank::Layer(layer)])
+        .skipped(12, 0, Vec::new())
+        .skipped(12, 0, Vec::new())
+}
+
+/// A layer of two bitmaps whose second channel has the codes of its first.
+fn twice() -> Picture {
+    let mut layer = Layer::new(Rectangle::new(0, 0, 5, 5))
+        .named("twice")
+        .with(0, 0, vec![0; 40])
+        .with(0, 0, vec![0; 40]);
+    layer.bitmaps = 2;
+    Picture::new(image(true)).bank(vec![InBank::Layer(layer)])
+}

@@ -1,0 +1,151 @@
+//! Document 01's worked values, and each answer of the plane reader, the
+//! packer and the placing on the smallest of inputs, with resolutions and
+//! shared pixels beside them. Each has the beginning of its line, worked out by
+//! hand, to which the checks of this program hold the reference.
+
+use crate::case::{Case, Stored};
+use crate::psp::rectangle::Rectangle;
+
+pub fn all(cases: &mut Vec<Case>) {
+    cases.extend(rows().into_iter().map(|(case, _)| case));
+}
+
+/// A case, and its line up to the hash.
+pub fn rows() -> Vec<(Case, &'static str)> {
+    let mut rows = Vec::new();
+    streams(&mut rows);
+    planes(&mut rows);
+    packed(&mut rows);
+    canvases(&mut rows);
+    shared(&mut rows);
+    dots(&mut rows);
+    rows
+}
+
+type Rows = Vec<(Case, &'static str)>;
+
+/// Bytes of the destinations.
+const DESTINATION: u32 = 5;
+
+/// Document 01's streams, and three more.
+fn streams(rows: &mut Rows) {
+    let mut push = |stream: &[u8], plane, line| {
+        let case = Case::Packets {
+            plane,
+            destination: DESTINATION,
+            stream: stream.to_vec(),
+        };
+        rows.push((case, line));
+    };
+    push(&[0x83, 0x41], 3, "U 0 2 3");
+    push(&[0x00, 0x81, 0x07], 1, "U 0 3 1");
+    push(&[0x81, 0x07, 0x00], 1, "U 23 2 0");
+    push(&[0x83, 0x41], 2, "U 23 0 0");
+    push(&[0x02, 0x41], 2, "U 22 0 0");
+    push(&[0x80, 0x41], 1, "U 21 0 0");
+    push(&[], 0, "U 0 0 0");
+    push(&[], 1, "U 22 0 0");
+    push(&[0x00], 0, "U 23 0 0");
+    push(&[0x81, 0x07], 2, "U 22 2 0");
+    push(&[0x86, 0x41], 6, "U 20 0 0");
+}
+
+/// Parts of one input: each answer of the plane reader, in its order of tests.
+fn planes(rows: &mut Rows) {
+    let mut push = |start, length, plane, code, line| {
+        let case = Case::Plane {
+            stored: Stored {
+                start,
+                length,
+                plane,
+                code,
+            },
+            destination: DESTINATION,
+            input: vec![0xAA, 0x83, 0x41, 0x01, 0x42, 0x80],
+        };
+        rows.push((case, line));
+    };
+    push(1, 4, 4, 1, "P 0 4 4");
+    push(3, 3, 3, 0, "P 0 3 3");
+    push(6, 0, 0, 0, "P 0 0 0");
+    push(1, 5, 5, 1, "P 21 4 0");
+    push(1, 1, 3, 1, "P 22 0 0");
+    push(1, 2, 4, 1, "P 22 2 0");
+    push(1, 4, 3, 1, "P 23 2 0");
+    push(1, 4, 2, 1, "P 23 0 0");
+    push(0, 6, 6, 0, "P 20 0 0");
+    push(3, 3, 4, 0, "P 25 0 0");
+    push(9, 9, 16_777_217, 2, "P 24 0 0");
+    push(9, 9, 16_777_217, 0, "P 26 0 0");
+    push(6, 1, 9, 0, "P 27 0 0");
+    push(u64::MAX, u64::MAX, 1, 1, "P 27 0 0");
+}
+
+/// Document 01's two planes, and 129 equal bytes, there and back.
+fn packed(rows: &mut Rows) {
+    let mut push = |plane: &[u8], line| {
+        let case = Case::Pack {
+            destination: DESTINATION,
+            plane: plane.to_vec(),
+        };
+        rows.push((case, line));
+    };
+    push(&[0x41, 0x41], "K 0 3");
+    push(&[0x41, 0x42, 0x42, 0x42], "K 0 4");
+    push(&[], "K 0 0");
+    push(&[1, 2, 3, 4, 5], "K 30 0");
+    push(&[7; 129], "K 0 5");
+    let back = Case::Packets {
+        plane: 129,
+        destination: 130,
+        stream: vec![0xFF, 7, 2, 7, 7],
+    };
+    rows.push((back, "U 0 5 129"));
+}
+
+/// Document 01's row, and each refusal, in the order of the tests.
+fn canvases(rows: &mut Rows) {
+    let mut push = |height, rectangle, plane: &[u8], line| {
+        let case = Case::Canvas {
+            width: 3,
+            height,
+            rectangle,
+            canvas: vec![0xEE; 6],
+            plane: plane.to_vec(),
+        };
+        rows.push((case, line));
+    };
+    let saved = Rectangle::new(-1, 1, 1, 2);
+    let back = Rectangle::new(1, 1, -1, 2);
+    push(2, saved, &[0x10, 0x11, 0, 0], "C 0");
+    push(3, back, &[], "C 40");
+    push(2, back, &[], "C 41");
+    push(2, saved, &[0x10, 0x11], "C 42");
+}
+
+/// The pixels that rectangles share with one of 4 by 4.
+fn shared(rows: &mut Rows) {
+    let mut push = |other, line| {
+        let one = Rectangle::new(0, 0, 4, 4);
+        rows.push((Case::Intersection { one, other }, line));
+    };
+    push(Rectangle::new(-1, 1, 1, 2), "I 0 1 1 2");
+    push(Rectangle::new(4, 0, 8, 4), "I 0 0 0 0");
+    push(Rectangle::new(3, 3, 2, 2), "I 0 0 0 0");
+    let all = Rectangle::new(i32::MIN, i32::MIN, i32::MAX, i32::MAX);
+    push(all, "I 0 0 4 4");
+}
+
+/// The dots per centimetre, as bits.
+fn dots(rows: &mut Rows) {
+    let mut push = |bits, metric, line| rows.push((Case::Dots { bits, metric }, line));
+    // 300, then 118.11, the least subnormal twice, -0, infinity and a NaN.
+    push(4643985272004935680, 1, "D 1 4638011685934231778");
+    push(4638011669311693783, 2, "D 1 4638011669311693783");
+    push(1, 2, "D 1 1");
+    push(1, 1, "D 1 0");
+    push(1 << 63, 1, "D 0 0");
+    push(0x7FF0_0000_0000_0000, 1, "D 0 0");
+    push(0x7FF8_0000_0000_0000, 2, "D 0 0");
+    push(4643985272004935680, 0, "D 0 0");
+}
