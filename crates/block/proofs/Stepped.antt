@@ -18,7 +18,7 @@ use Rattle.walk.proofs.Unit.{unit-ind}
 use Rattle.headers.specs.declared.block_header.BlockHeader.{BlockHeader}
 use Rattle.headers.specs.BlockHeader.{blockHeaderSize, blockHeaderOf}
 use Rattle.attributes.specs.declared.fault.Fault.the-variants.{None}
-use Rattle.attributes.specs.ImageAttributes.{imageAt, imageFault}
+use Rattle.attributes.specs.ImageAttributes.{imageSize, imageAt, imageFault}
 use Rattle.chunk.specs.declared.channel_information.ChannelChunk.{ChannelChunk}
 use Rattle.chunk.specs.Heads.{imageHead, paletteHead, layerHead, channelHead}
 use Rattle.chunk.specs.ColorPalette.{paletteSize, paletteAt, paletteFault}
@@ -168,10 +168,10 @@ module _ (s : List ℕ) (st : State) (at end levels : ℕ) where
           state = refl;
         })))
 
-    image-stepped : st .image .depth ≡ 0 → h .total ≡ 38 → Stepped (imageBlock s st at level)
+    image-stepped : st .image .depth ≡ 0 → h .total ≡ imageSize → Stepped (imageBlock s st at level)
     unfolding imageBlock
     image-stepped none whole =
-        unit-ind Stepped s chunkPlace 38 _ (λ _. further blockHeaderSize) (λ there.
+        unit-ind Stepped s chunkPlace imageSize _ (λ _. further blockHeaderSize) (λ there.
         permitted-ind Stepped _ _ _ (λ _. further blockHeaderSize) (λ good.
         pick-ind Stepped _ _ _ (λ _. further blockHeaderSize) (λ other.
         leafed (an-image (record {
