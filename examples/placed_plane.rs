@@ -1,8 +1,7 @@
 //! From a layer to a placed plane: placed_plane_rs FILE LAYER BITMAP CHANNEL. LAYER counts from 0,
 //! the bottom one; bitmap and channel are those of `psp::Entry`.
 
-use psp::ffi::{ACCEPTED, ENTRY_NUMBERS};
-use psp::Entry;
+use psp::{Entry, ImageChunk, Rect, Refusal, RefusedListing, RefusedPlane, ENTRY_NUMBERS};
 use std::error::Error;
 
 const CHANNEL_BLOCK: u32 = 5;
@@ -24,27 +23,43 @@ fn main() {
 fn run(file: &str, layer: &str, bitmap: &str, channel: &str) -> Result<(), Box<dyn Error>> {
     let (k, bitmap, channel) = (layer.parse()?, bitmap.parse()?, channel.parse()?);
     let input = std::fs::read(file)?;
-
-    // List the file. The count says how much room the entries need.
-    let room = psp::count(&input, usize::MAX).count;
-    let mut table = vec![0; room * ENTRY_NUMBERS];
-    let mut entries = vec![Entry::default(); room];
-    let listed = psp::list_records(&input, &mut table, &mut entries);
-    good("listing", listed.number, listed.place)?;
+    let entries = entries(&input)?;
 
     // Each of these lists the input again: ask once, not once a plane.
-    let image = psp::image_facts(&input, usize::MAX).image;
-    let layer = psp::layer_facts(&input, usize::MAX, k);
-    if layer.number != ACCEPTED {
-        return Err("no such layer".into());
-    }
+    let image = psp::image_facts(&input, usize::MAX)?;
+    let layer = match psp::layer_facts(&input, usize::MAX, k) {
+        Err(Refusal::NoLayer) => return Err("no such layer".into()),
+        answer => answer?,
+    };
 
-    // The layer's channels, and the one that is wanted.
-    let channels = entries
-        .iter()
-        .filter(|entry| entry.skipped == 0 && entry.id == CHANNEL_BLOCK && entry.layer == k);
+    let wanted = wanted(&entries, k, bitmap, channel).ok_or("the layer has no such channel")?;
+    if wanted.bitmap == IMAGE && image.depth < 8 {
+        return Err("several pixels a byte: spread them before placing".into());
+    }
+    let plane = plane(&input, wanted, image.compression)?;
+    let saved = match wanted.bitmap {
+        USER_MASK => layer.mask.saved,
+        _ => layer.image.saved,
+    };
+    place(image, saved, &plane)
+}
+
+/// Lists the file. The count says how much room the entries need; a refused listing has one too.
+fn entries(input: &[u8]) -> Result<Vec<Entry>, String> {
+    let room = psp::count(input, usize::MAX).map_err(listing)?;
+    let mut table = vec![0; room * ENTRY_NUMBERS];
+    let mut entries = vec![Entry::default(); room];
+    psp::list_records(input, &mut table, &mut entries).map_err(listing)?;
+    Ok(entries)
+}
+
+/// Shows the layer's channels, and finds the one that is wanted.
+fn wanted(entries: &[Entry], k: u32, bitmap: u32, channel: u32) -> Option<&Entry> {
     let mut wanted = None;
-    for entry in channels {
+    for entry in entries {
+        if entry.skipped != 0 || entry.id != CHANNEL_BLOCK || entry.layer != k {
+            continue;
+        }
         println!(
             "layer {}: bitmap {} channel {}",
             entry.layer, entry.bitmap, entry.channel
@@ -53,38 +68,33 @@ fn run(file: &str, layer: &str, bitmap: &str, channel: &str) -> Result<(), Box<d
             wanted = Some(entry);
         }
     }
-    let wanted = wanted.ok_or("the layer has no such channel")?;
-    if wanted.bitmap == IMAGE && image.depth < 8 {
-        return Err("several pixels a byte: spread them before placing".into());
-    }
+    wanted
+}
 
-    // Read its plane.
+fn plane(input: &[u8], wanted: &Entry, compression: u16) -> Result<Vec<u8>, String> {
     let mut plane = vec![0; wanted.plane as usize];
-    let read = psp::read_plane(
-        &input,
+    let bytes = psp::read_plane(
+        input,
         wanted.start as usize,
         wanted.stored as usize,
         wanted.plane as usize,
-        image.compression.into(),
+        compression.into(),
         &mut plane,
-    );
-    good("plane", read.number, read.place)?;
+    )
+    .map_err(plane_refused)?;
     println!(
         "plane of {} by {} pixels, {} bytes",
-        wanted.width, wanted.height, read.bytes
+        wanted.width, wanted.height, bytes
     );
+    Ok(plane)
+}
 
-    // Place it where the layer has it, on a black canvas of the image's size.
-    let saved = match wanted.bitmap {
-        USER_MASK => layer.layer.mask.saved,
-        _ => layer.layer.image.saved,
-    };
+/// Places a plane where its layer has it, on a black canvas of the image's size.
+fn place(image: ImageChunk, saved: Rect, plane: &[u8]) -> Result<(), Box<dyn Error>> {
     let [width, height] = [image.width, image.height].map(i32::unsigned_abs);
     let mut canvas = vec![0; width as usize * height as usize];
-    let number = psp::place(width, height, &mut canvas, saved, &plane);
-    if number != ACCEPTED {
-        return Err("the plane cannot be placed".into());
-    }
+    let placed = psp::place(width, height, &mut canvas, saved, plane);
+    placed.map_err(|refusal| format!("the plane cannot be placed: {}", refusal))?;
     let lit = canvas.iter().filter(|&&pixel| pixel != 0).count();
     println!(
         "placed at ({},{}) on {} by {}: {} pixels are not 0",
@@ -93,9 +103,14 @@ fn run(file: &str, layer: &str, bitmap: &str, channel: &str) -> Result<(), Box<d
     Ok(())
 }
 
-fn good(what: &str, number: u32, place: usize) -> Result<(), Box<dyn Error>> {
-    match number {
-        ACCEPTED => Ok(()),
-        _ => Err(format!("{what}: refused, {number} at {place}").into()),
-    }
+fn listing(refused: RefusedListing) -> String {
+    refused_at("listing", refused.refusal, refused.place)
+}
+
+fn plane_refused(refused: RefusedPlane) -> String {
+    refused_at("plane", refused.refusal, refused.place)
+}
+
+fn refused_at(what: &str, refusal: Refusal, place: usize) -> String {
+    format!("{}: refused, {} at {}", what, refusal.number(), place)
 }

@@ -4,14 +4,14 @@
 case $(uname -m) in
 x86_64)
   rustc=rustc rust_flags=
-  cc=cc c_flags=
+  cc=cc cxx=c++ c_flags=
   emulator=
   ;;
 aarch64)
   # Under the emulator only static programs that are not position-independent run.
   rustc=/usr/bin/rustc
   rust_flags='--target x86_64-unknown-linux-gnu -C linker=x86_64-linux-gnu-gcc -C target-feature=+crt-static -C relocation-model=static'
-  cc=x86_64-linux-gnu-gcc c_flags=-static
+  cc=x86_64-linux-gnu-gcc cxx=x86_64-linux-gnu-g++ c_flags=-static
   emulator=qemu-x86_64
   [ -d /usr/lib/rustlib/x86_64-unknown-linux-gnu ] || fail "Rust for x86-64 is missing: run host/install"
   ;;

@@ -4,8 +4,8 @@
  * The library allocates nothing, keeps nothing between calls and stops for no input: each function tests its own arguments and gives one
  * answer for every input, however damaged or short. The numbers of its answers are document 01's, and stand below.
  *
- * A buffer is a pointer and its length in elements. No pointer may be null, also at length 0. Buffers that a function writes must not
- * overlap any other buffer of the call.
+ * A buffer is a pointer and its length in elements. Where the length is 0 the pointer may be null, as that of an empty vector is: nothing
+ * is read or written through it. Buffers that a function writes must not overlap any other buffer of the call.
  */
 #ifndef PSP_H
 #define PSP_H
@@ -20,6 +20,16 @@
 #ifdef __cplusplus
 extern "C" {
 #endif
+
+/* ---- Version ---- */
+
+#define PSP_VERSION_MAJOR 0
+#define PSP_VERSION_MINOR 2
+#define PSP_VERSION_PATCH 0
+#define PSP_VERSION (PSP_VERSION_MAJOR * 10000 + PSP_VERSION_MINOR * 100 + PSP_VERSION_PATCH)
+
+/* Gives the version of the library that is linked, which is PSP_VERSION of the header that belongs to it. */
+uint32_t psp_version(void);
 
 /* ---- Answers ---- */
 

@@ -4,7 +4,7 @@
 //! the struct's place as its first argument. On Arm that place travels in a register of its own. So
 //! the linker wraps these functions (`--wrap`), and the place is handed over here.
 
-use crate::library::{Listed, Plane};
+use crate::library::numbers::{Listed, Plane};
 use std::mem::MaybeUninit;
 
 extern "C" {

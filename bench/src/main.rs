@@ -21,7 +21,7 @@ mod views;
 #[cfg(target_arch = "aarch64")]
 mod arm;
 
-#[allow(dead_code)]
+#[allow(dead_code, unused_imports)]
 #[path = "../../host/src/psp/lib.rs"]
 mod library;
 

@@ -1,7 +1,7 @@
 //! The library and its peers, behind functions of one shape.
 
 use crate::copying;
-use crate::library;
+use crate::library::numbers as library;
 use crate::reference::psp as reference;
 
 #[derive(Clone, Copy, Debug)]

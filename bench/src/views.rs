@@ -2,7 +2,7 @@
 
 use crate::clock::Clock;
 use crate::files::{self, HEADER};
-use crate::library;
+use crate::library::numbers as library;
 use crate::measure::counted;
 
 const LAYERS: u16 = 64;

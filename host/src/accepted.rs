@@ -1,36 +1,67 @@
 //! A file in memory, listed by the library.
 
-use crate::answer;
-use crate::arguments::printable;
+use crate::answer::{self, Refused};
 use crate::failure::Failure;
+use crate::identity::Identity;
 use crate::lines;
+use crate::name;
 use crate::psp::ffi::{ImageChunk, LayerChunk, ACCEPTED, ENTRY_NUMBERS, INPUT_LIMIT};
 use crate::psp::{self, Entry, Listed};
 use std::ffi::OsStr;
 use std::fs::File;
 use std::io::{self, Read};
+use std::os::unix::io::AsFd;
 
 /// A view lists again without a table, so any room will do.
 pub const ROOM: usize = usize::MAX;
 
-/// Reads a file, or standard input for `-`; one byte over the limit is enough to be refused.
-pub fn read(file: &OsStr) -> Result<Vec<u8>, Failure> {
-    let mut bytes = Vec::new();
-    let limit = INPUT_LIMIT as u64 + 1;
-    let result = if file == "-" {
-        io::stdin().lock().take(limit).read_to_end(&mut bytes)
-    } else {
-        File::open(file).and_then(|open| open.take(limit).read_to_end(&mut bytes))
-    };
-    match result {
-        Ok(_) => Ok(bytes),
-        Err(error) => Err(unreadable(file, &error.to_string())),
+/// The bytes of a file, and what is known of it besides.
+pub struct Input {
+    pub bytes: Vec<u8>,
+    /// Which file it is, if it is one that writing could destroy.
+    pub identity: Option<Identity>,
+    /// The size of a regular file, of which no more than the limit is read.
+    pub size: Option<u64>,
+}
+
+impl Input {
+    /// Reads a file, or standard input for `-`; one byte over the limit is enough to be refused.
+    pub fn read(file: &OsStr) -> Result<Input, Failure> {
+        let fail = |error: io::Error| unreadable(file, &error.to_string());
+        let open = open(file).map_err(fail)?;
+        let data = open.metadata().map_err(fail)?;
+        let mut bytes = Vec::new();
+        let limit = INPUT_LIMIT as u64 + 1;
+        open.take(limit).read_to_end(&mut bytes).map_err(fail)?;
+        let identity = Identity::of_regular(&data);
+        Ok(Input {
+            bytes,
+            identity,
+            size: identity.map(|_| data.len()),
+        })
+    }
+
+    /// The refusal of its listing.
+    pub fn refused(&self, answer: &Listed) -> Failure {
+        refused(answer, &self.bytes, self.size)
     }
 }
 
+/// Standard input as a file tells which file it is redirected from.
+fn open(file: &OsStr) -> io::Result<File> {
+    if file == "-" {
+        return io::stdin().as_fd().try_clone_to_owned().map(File::from);
+    }
+    File::open(file)
+}
+
+/// The bytes of a file, or of standard input for `-`.
+pub fn read(file: &OsStr) -> Result<Vec<u8>, Failure> {
+    Ok(Input::read(file)?.bytes)
+}
+
 pub fn unreadable(file: &OsStr, why: &str) -> Failure {
-    let file = printable(&file.to_string_lossy());
-    Failure::Unreadable(format!("cannot read {}: {}", file, why))
+    Failure::Unreadable(format!("cannot read {}: {}", name::file(file), why))
 }
 
 /// Numbers or bytes that are all zero; a failure where memory has no room for them.
@@ -50,29 +81,42 @@ pub fn list(input: &[u8]) -> Result<(Listed, Vec<u32>), Failure> {
     Ok((answer, table))
 }
 
-/// The refusal of a listing.
-pub fn refused(answer: &Listed) -> Failure {
-    Failure::Refused(answer::refusal_at(answer.number, answer.place))
+/// The refusal of a listing, with what the input has at its place.
+pub fn refused(answer: &Listed, input: &[u8], size: Option<u64>) -> Failure {
+    let refused = Refused {
+        number: answer.number,
+        place: answer.place,
+        input,
+        size,
+    };
+    Failure::Refused(refused.sentence())
 }
 
 /// An accepted file, with the entries of the blocks that are not skipped: a few hundred at most.
 pub struct Accepted {
     pub bytes: Vec<u8>,
+    pub identity: Option<Identity>,
     known: Vec<Entry>,
 }
 
 impl Accepted {
     pub fn read(file: &OsStr) -> Result<Accepted, Failure> {
-        let bytes = read(file)?;
-        let (answer, table) = list(&bytes)?;
+        let input = Input::read(file)?;
+        let (answer, table) = list(&input.bytes)?;
         if answer.number != ACCEPTED {
-            return Err(refused(&answer));
+            return Err(input.refused(&answer));
         }
-        let known = lines::entries(&table).filter(|entry| entry.skipped == 0);
-        Ok(Accepted {
+        Ok(Accepted::listed(input, &table))
+    }
+
+    /// An input whose listing is accepted.
+    pub fn listed(input: Input, table: &[u32]) -> Accepted {
+        let known = lines::entries(table).filter(|entry| entry.skipped == 0);
+        Accepted {
             known: known.collect(),
-            bytes,
-        })
+            bytes: input.bytes,
+            identity: input.identity,
+        }
     }
 
     pub fn image(&self) -> Result<ImageChunk, Failure> {

@@ -1,81 +1,455 @@
-//! Document 01's answers in its own words.
+//! Refusals in words: what was found, and what to do next.
 
+use crate::fields::{self, Block, MARK};
+use crate::name;
 use crate::psp::ffi::*;
 
-/// What an answer number means.
-pub fn meaning(number: u32) -> &'static str {
-    match number {
-        ACCEPTED => "accepted",
-        OVER_LIMIT => "input over the limit",
-        ENDS_TOO_SOON => "ends too soon",
-        WRONG_SIGNATURE => "signature wrong",
-        WRONG_VERSION => "version not 3.0",
-        WRONG_MARK => "block mark is not 7E 42 4B 00",
-        WRONG_LENGTH => "length does not fit",
-        OUT_OF_PLACE => "known block out of place",
-        WRONG_FIELD => "field value not permitted",
-        NOT_EXPECTED => "layer or channel not expected",
-        MISSING => "parent ended with layers or channels missing",
-        NOT_READABLE => "compression code 2",
-        TABLE_FULL => "table full",
-        PLANE_NO_ROOM => "destination shorter than the plane",
-        PLANE_COUNT_128 => "count 128",
-        PLANE_DATA_MISSING => "packet data missing, or the plane not full at the stream's end",
-        PLANE_TOO_MUCH => "more than the plane has left",
-        PLANE_UNKNOWN_CODE => "code not 0 or 1",
-        PLANE_RAW_LENGTH => "raw length differs from the plane length",
-        PLANE_OVER_LIMIT => "plane length over the limit",
-        PLANE_OUTSIDE => "stored part not inside the input",
-        CANVAS_WRONG => "canvas side not 1 to 4,096, or canvas length not their product",
-        RECT_WRONG => "rectangle breaks a coordinate, order or side rule",
-        PLANE_WRONG => "plane length not row times height",
-        NO_PALETTE => "depth 24",
-        NO_RAMP => "grey, no palette listed, ramp not 1,024 bytes",
-        NO_LAYER => "no such layer",
-        _ => "no number of document 01",
+/// A listing's refusal: its number and place, the input as far as it was read, and the size of the
+/// file where that is known.
+#[derive(Clone, Copy)]
+pub struct Refused<'a> {
+    pub number: u32,
+    pub place: usize,
+    pub input: &'a [u8],
+    pub size: Option<u64>,
+}
+
+impl Refused<'_> {
+    pub fn sentence(&self) -> String {
+        let (found, next) = self.words();
+        format!(
+            "refused: {} at {}, {}; {}",
+            self.number, self.place, found, next
+        )
+    }
+
+    /// What was found, and what to do next.
+    fn words(&self) -> (String, &'static str) {
+        match self.number {
+            OVER_LIMIT => (
+                self.over_limit(),
+                "save it with run-length compression, or with fewer layers",
+            ),
+            ENDS_TOO_SOON => (self.ends_too_soon(), "more may come, else fetch it again"),
+            WRONG_SIGNATURE => (
+                self.wrong_signature(),
+                "it is of another kind, or its beginning is damaged: ask for the file again",
+            ),
+            WRONG_VERSION => (
+                self.wrong_version(),
+                "save it again in format 3.0, which Paint Shop Pro 5 and 6 can write",
+            ),
+            WRONG_FIELD => self.wrong_field(),
+            NOT_READABLE => (
+                "it is compressed by LZ77 (compression code 2), which is not read".to_string(),
+                "save it again with run-length compression, or uncompressed",
+            ),
+            TABLE_FULL => (
+                "the table has no room for the block here".to_string(),
+                "list again in a larger table",
+            ),
+            _ => self.damage(),
+        }
+    }
+
+    /// What a program that writes Paint Shop Pro files does not do.
+    fn damage(&self) -> (String, &'static str) {
+        match self.number {
+            WRONG_MARK => (
+                self.wrong_mark(),
+                "bytes were lost or changed: fetch the file again",
+            ),
+            WRONG_LENGTH => (
+                self.wrong_length(),
+                "the file is damaged: fetch it again, or save it again",
+            ),
+            OUT_OF_PLACE => (
+                format!("{} is out of place here", self.block()),
+                "open it in Paint Shop Pro and save it again",
+            ),
+            NOT_EXPECTED => (
+                self.not_expected(),
+                "the file contradicts itself: open it in Paint Shop Pro and save it again",
+            ),
+            MISSING => (
+                "the block that ends here lacks layers or channels that were announced".to_string(),
+                "look in Paint Shop Pro whether layers were lost, and save it again",
+            ),
+            _ => (UNKNOWN.0.to_string(), UNKNOWN.1),
+        }
+    }
+
+    fn over_limit(&self) -> String {
+        let size = match self.size {
+            Some(size) => format!("the file has {} bytes", size),
+            None => format!("the file has more than {} bytes", INPUT_LIMIT),
+        };
+        format!("{}, and at most {} are read", size, INPUT_LIMIT)
+    }
+
+    fn ends_too_soon(&self) -> String {
+        let missing = if self.place < self.input.len() {
+            "what begins here is not whole"
+        } else {
+            "a part is missing behind them"
+        };
+        format!(
+            "it ends too soon: {} bytes are there, and {}",
+            self.input.len(),
+            missing
+        )
+    }
+
+    fn wrong_signature(&self) -> String {
+        let beginning = self.input.get(..32).unwrap_or(self.input);
+        format!(
+            "it begins with {} and not with the signature of Paint Shop Pro",
+            name::quoted(beginning)
+        )
+    }
+
+    fn wrong_version(&self) -> String {
+        match fields::version(self.input) {
+            Some((major, minor)) => {
+                format!("its version is {}.{}, and only 3.0 is read", major, minor)
+            }
+            None => "its version is not 3.0".to_string(),
+        }
+    }
+
+    fn wrong_mark(&self) -> String {
+        let found = self.header().map(|block| name::quoted(&block.mark));
+        format!(
+            "no block begins here: {} stands in place of the mark {}",
+            found.unwrap_or_default(),
+            name::quoted(&MARK)
+        )
+    }
+
+    /// The place is the header with the length, or the next byte where too few are left of the
+    /// block around it; either may look like a header.
+    fn wrong_length(&self) -> String {
+        match self.header() {
+            Some(block) if block.mark == MARK => format!(
+                "the lengths of {}, {} and {}, do not fit, or those of the block around it",
+                self.block(),
+                block.initial,
+                block.total
+            ),
+            _ => "the length of the block around this place leaves too few bytes for another block"
+                .to_string(),
+        }
+    }
+
+    /// The field is not named yet; where the kind of block has a known reason, that is told.
+    fn wrong_field(&self) -> (String, &'static str) {
+        let place = self.place.checked_sub(14);
+        let block = place.and_then(|place| fields::block(self.input, place));
+        let found = format!(
+            "a field of {} has a value that is not permitted",
+            named(block)
+        );
+        let next = match block.map(|block| block.id) {
+            Some(4) => {
+                "often a saved rectangle is counted from its border's corner, \
+                 and such files are not read yet (docs/FIELD.md)"
+            }
+            Some(5) => {
+                "often the plane length is a bitmap's size in memory, or rows are not padded, \
+                 and such files are not read yet (docs/FIELD.md)"
+            }
+            _ => "open it in Paint Shop Pro and save it again in format 3.0",
+        };
+        (found, next)
+    }
+
+    fn not_expected(&self) -> String {
+        let is_channel = self.header().map(|block| block.id) == Some(5);
+        let codes = fields::channel(self.input, self.place).filter(|_| is_channel);
+        let codes =
+            codes.map(|(bitmap, channel)| format!(", bitmap {} channel {},", bitmap, channel));
+        let why = if is_channel {
+            "its layer has it already, has all its channels, or cannot have it"
+        } else {
+            "the image has fewer layers by its own count"
+        };
+        let block = self.block();
+        format!(
+            "{}{} is not expected: {}",
+            block,
+            codes.unwrap_or_default(),
+            why
+        )
+    }
+
+    /// The block whose header stands at the place.
+    fn block(&self) -> String {
+        named(self.header())
+    }
+
+    fn header(&self) -> Option<Block> {
+        fields::block(self.input, self.place)
     }
 }
 
-/// The refusal of an input at a place of it.
-pub fn refusal_at(number: u32, place: usize) -> String {
-    format!("refused: {} at {}, {}", number, place, meaning(number))
+/// The kinds of blocks by their ids.
+const KINDS: [&str; 12] = [
+    "an image",
+    "a creator",
+    "a palette",
+    "a bank",
+    "a layer",
+    "a channel",
+    "a selection",
+    "an alpha bank",
+    "an alpha channel",
+    "a thumbnail",
+    "an extended",
+    "a tube",
+];
+
+/// A block by its kind and id.
+fn named(block: Option<Block>) -> String {
+    match block {
+        Some(block) => {
+            let kind = KINDS.get(usize::from(block.id)).unwrap_or(&"an unknown");
+            format!("{} block (id {})", kind, block.id)
+        }
+        None => "a block".to_string(),
+    }
 }
+
+/// The refusal of a plane: what was found, and what to do next.
+fn of_plane(number: u32) -> (&'static str, &'static str) {
+    match number {
+        PLANE_NO_ROOM => ("the plane is longer than the room for it", "give it more"),
+        PLANE_COUNT_128 => ("a packet's count is 128, which means nothing", SAVE_AGAIN),
+        PLANE_DATA_MISSING => ("the packets end before the plane is full", SAVE_AGAIN),
+        PLANE_TOO_MUCH => ("the packets hold more than the plane", SAVE_AGAIN),
+        PLANE_UNKNOWN_CODE => (
+            "the compression code is neither 0, raw, nor 1, run lengths",
+            "save it again with one of them",
+        ),
+        PLANE_RAW_LENGTH => (
+            "the raw channel is not as long as its plane",
+            "save it again with run-length compression",
+        ),
+        PLANE_OVER_LIMIT => (
+            "the plane has more than 16777216 bytes, the limit",
+            "save the image in smaller parts",
+        ),
+        PLANE_OUTSIDE => (
+            "the stored channel does not lie inside the file",
+            "fetch the file again",
+        ),
+        _ => UNKNOWN,
+    }
+}
+
+/// The refusal of a canvas or a view, likewise.
+fn of_view(number: u32) -> (&'static str, &'static str) {
+    match number {
+        CANVAS_WRONG => (
+            "a side of the canvas is not 1 to 4096, or its length is not their product",
+            "give it others",
+        ),
+        RECT_WRONG => (
+            "the rectangle breaks a rule of coordinates, order or sides",
+            "give it one that a listing has passed",
+        ),
+        PLANE_WRONG => (
+            "the plane is not as long as its rectangle wants",
+            "give the whole plane",
+        ),
+        NO_PALETTE => (
+            "an image of depth 24 has no palette",
+            "psp plane shows its colours",
+        ),
+        NO_RAMP => (
+            "a grey image without a palette wants a ramp of 1024 bytes",
+            "give it one",
+        ),
+        NO_LAYER => (
+            "there is no such layer",
+            "psp layers shows those that there are",
+        ),
+        _ => UNKNOWN,
+    }
+}
+
+const SAVE_AGAIN: &str = "the channel is damaged: fetch the file again, or save it again";
+const UNKNOWN: (&str, &str) = (
+    "for a reason that has no number in document 01",
+    "this is a fault of psp",
+);
 
 /// The refusal of a plane at a place inside its stored channel, and where in the file that is.
 pub fn refusal_inside(number: u32, place: usize, start: usize) -> String {
+    let (found, next) = of_plane(number);
+    let in_file = start.saturating_add(place);
     format!(
-        "refused: {} at {} inside the stored channel, {} in the file, {}",
-        number,
-        place,
-        start.saturating_add(place),
-        meaning(number)
+        "refused: {} at {} inside the stored channel, {} in the file, {}; {}",
+        number, place, in_file, found, next
     )
 }
 
 /// A refusal that has no place.
 pub fn refusal(number: u32) -> String {
-    format!("refused: {}, {}", number, meaning(number))
+    let (found, next) = of_view(number);
+    format!("refused: {}, {}; {}", number, found, next)
 }
 
 #[cfg(test)]
 mod tests {
     use super::*;
 
+    fn refused(number: u32, place: usize, input: &[u8]) -> String {
+        let refused = Refused {
+            number,
+            place,
+            input,
+            size: Some(input.len() as u64),
+        };
+        refused.sentence()
+    }
+
+    /// Bytes of no file, with a block header of this id at 36.
+    fn with_block(id: u8) -> Vec<u8> {
+        let mut input = vec![0; 36];
+        input.extend_from_slice(b"~BK\0");
+        input.extend_from_slice(&[id, 0, 12, 0, 0, 0, 16, 1, 0, 0]);
+        input.extend_from_slice(&[9, 9, 9, 9, 8, 8, 8, 8, 2, 0, 1, 0]);
+        input
+    }
+
+    fn holds(sentence: &str, parts: &[&str]) {
+        for part in parts {
+            assert!(sentence.contains(part), "{} in {}", part, sentence);
+        }
+    }
+
     #[test]
-    fn a_refusal_has_number_place_and_meaning() {
-        assert_eq!(refusal_at(2, 517), "refused: 2 at 517, ends too soon");
-        assert_eq!(refusal(43), "refused: 43, depth 24");
-        assert_eq!(
-            refusal_inside(21, 3, 731),
-            "refused: 21 at 3 inside the stored channel, 734 in the file, count 128"
+    fn every_number_has_its_own_sentence() {
+        let input = with_block(5);
+        let listing = (1..=12).map(|number| refused(number, 36, &input));
+        let planes = (20..=27).map(|number| refusal_inside(number, 0, 0));
+        let others = planes.chain((40..=45).map(refusal));
+        let unknown = [refused(99, 36, &input), refusal(99)];
+        let words = |sentence: String| sentence.splitn(2, ", ").nth(1).map(str::to_string);
+        let mut all: Vec<Option<String>> =
+            listing.chain(others).chain(unknown).map(words).collect();
+        assert!(all.iter().flatten().all(|words| words.len() > 20));
+        all.sort();
+        all.dedup();
+        // The unknown number is one sentence, with a place or without.
+        assert_eq!(all.len(), 12 + 8 + 6 + 1);
+    }
+
+    #[test]
+    fn a_size_and_the_limit_are_told() {
+        let mut over = Refused {
+            number: 1,
+            place: 0,
+            input: &[],
+            size: Some(70_000_000),
+        };
+        holds(
+            &over.sentence(),
+            &["refused: 1 at 0", " 70000000 ", " 67108864 "],
+        );
+        over.size = None;
+        holds(&over.sentence(), &["more than 67108864 bytes"]);
+    }
+
+    #[test]
+    fn an_end_tells_how_many_bytes_there_are() {
+        let sentence = refused(2, 36, &[0; 40]);
+        holds(
+            &sentence,
+            &[
+                "2 at 36",
+                "40 bytes are there",
+                "begins here",
+                "more may come",
+            ],
+        );
+        holds(
+            &refused(2, 40, &[0; 40]),
+            &["missing behind them", "more may come"],
         );
     }
 
     #[test]
-    fn every_number_that_a_command_can_meet_has_a_meaning() {
-        let numbers = (0..=12).chain(20..=27).chain(40..=45);
-        for number in numbers {
-            assert_ne!(meaning(number), meaning(99), "{}", number);
-        }
+    fn a_beginning_is_told_as_it_stands() {
+        let mut input = b"\x89PNG\r\n\x1A\n \"".to_vec();
+        input.resize(40, b'.');
+        let quoted = "\"‰PNG\\x0D\\x0A\\x1A\\x0A \\\"......................\"";
+        holds(&refused(3, 0, &input), &[quoted]);
+        input[32..36].copy_from_slice(&[5, 0, 1, 0]);
+        holds(&refused(4, 32, &input), &["version is 5.1", "format 3.0"]);
+    }
+
+    #[test]
+    fn a_block_is_told_as_it_stands() {
+        let input = with_block(9);
+        holds(&refused(7, 36, &input), &["a thumbnail block (id 9)"]);
+        holds(
+            &refused(6, 36, &input),
+            &["a thumbnail block (id 9), 12 and 272"],
+        );
+        holds(&refused(6, 20, &input), &["leaves too few bytes"]);
+        holds(
+            &refused(5, 37, &input),
+            &["\"BK\\x00\\x09\"", "\"~BK\\x00\""],
+        );
+        holds(
+            &refused(7, 36, &with_block(77)),
+            &["an unknown block (id 77)"],
+        );
+    }
+
+    #[test]
+    fn a_channel_too_many_is_told_by_its_codes() {
+        let channel = with_block(5);
+        holds(&refused(9, 36, &channel), &["(id 5), bitmap 2 channel 1,"]);
+        holds(
+            &refused(9, 36, &channel[..55]),
+            &["a channel block (id 5) is not expected"],
+        );
+        holds(
+            &refused(9, 36, &with_block(4)),
+            &["fewer layers by its own count"],
+        );
+    }
+
+    #[test]
+    fn a_field_has_the_reason_that_genuine_files_often_have() {
+        holds(
+            &refused(8, 50, &with_block(4)),
+            &["a layer block", "often a saved"],
+        );
+        holds(
+            &refused(8, 50, &with_block(5)),
+            &["a channel block", "often the plane"],
+        );
+        holds(
+            &refused(8, 50, &with_block(0)),
+            &["an image block", "save it again"],
+        );
+    }
+
+    #[test]
+    fn lz77_is_told_by_its_name() {
+        let next = "save it again with run-length compression, or uncompressed";
+        holds(&refused(11, 50, &[]), &["LZ77", next]);
+    }
+
+    #[test]
+    fn a_plane_is_refused_inside_its_channel() {
+        let sentence = refusal_inside(21, 3, 731);
+        holds(
+            &sentence,
+            &["21 at 3 inside the stored channel, 734 in the file, "],
+        );
     }
 }

@@ -1,6 +1,7 @@
 //! The words of a command: options, and operands in their order.
 
 use crate::failure::Failure;
+use crate::name;
 use std::ffi::{OsStr, OsString};
 
 /// An option that a command knows.
@@ -18,7 +19,8 @@ pub struct Arguments {
 }
 
 impl Arguments {
-    /// Sorts words by what the command knows; a lone `-` is an operand, and all words behind `--`.
+    /// Sorts words by what the command knows; a lone `-` is an operand, a number below 0, and all
+    /// words behind `--`.
     pub fn parse(words: &[OsString], known: &[Known]) -> Result<Arguments, Failure> {
         let mut arguments = Arguments {
             operands: Vec::new(),
@@ -29,10 +31,10 @@ impl Arguments {
             let text = word.to_string_lossy();
             if text == "--" {
                 arguments.operands.extend(words.by_ref().cloned());
-            } else if text == "-" || !text.starts_with('-') {
+            } else if is_operand(&text) {
                 arguments.operands.push(word.clone());
             } else {
-                let option = option(&text, known)?;
+                let option = option(word, known)?;
                 arguments.options.push(match option {
                     Known::Flag(name) => (name, OsString::new()),
                     Known::Valued(name) => (name, value(name, words.next())?),
@@ -56,22 +58,22 @@ impl Arguments {
     }
 }
 
-fn option(text: &str, known: &[Known]) -> Result<Known, Failure> {
+fn is_operand(text: &str) -> bool {
+    let is_number = |digits: &str| digits.bytes().all(|byte| byte.is_ascii_digit());
+    text.strip_prefix('-').map_or(true, is_number)
+}
+
+fn option(word: &OsStr, known: &[Known]) -> Result<Known, Failure> {
     let is_it = |known: &&Known| match known {
-        Known::Flag(name) | Known::Valued(name) => *name == text,
+        Known::Flag(name) | Known::Valued(name) => word == *name,
     };
-    let unknown = || Failure::Use(format!("no option {}", printable(text)));
+    let unknown = || Failure::Use(format!("no option {}", name::file(word)));
     known.iter().find(is_it).copied().ok_or_else(unknown)
 }
 
 fn value(name: &str, word: Option<&OsString>) -> Result<OsString, Failure> {
     let missing = || Failure::Use(format!("{} has no value", name));
     word.cloned().ok_or_else(missing)
-}
-
-/// A word of the command line as a message may show it.
-pub fn printable(word: &str) -> String {
-    word.escape_debug().to_string()
 }
 
 #[cfg(test)]
@@ -109,10 +111,18 @@ mod tests {
     }
 
     #[test]
+    fn a_number_below_0_is_no_option() {
+        let arguments = parse(&["-1", "-", "-99999999999"]).expect("good words");
+        let operands = arguments.operands::<3>("").expect("three");
+        assert_eq!(operands, ["-1", "-", "-99999999999"]);
+        assert!(parse(&["-1x"]).is_err());
+    }
+
+    #[test]
     fn what_no_command_knows_is_told() {
         assert_eq!(
             sentence(parse(&["--new\x1b"])),
-            "wrong use: no option --new\\u{1b}"
+            "wrong use: no option \"--new\\u{1b}\""
         );
         assert_eq!(sentence(parse(&["-o"])), "wrong use: -o has no value");
         let one = parse(&["a"]).expect("good words");

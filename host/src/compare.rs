@@ -1,58 +1,74 @@
 //! `psp compare`: a table typed by hand against the file's.
 
 use crate::accepted::{self, Accepted};
-use crate::arguments::Arguments;
+use crate::arguments::{Arguments, Known};
+use crate::collect;
+use crate::difference::{self, Report};
+use crate::export;
 use crate::failure::Failure;
-use crate::layers;
 use crate::output;
-use crate::typed::{self, Layer};
-use std::ffi::OsString;
+use crate::typed;
+use std::ffi::{OsStr, OsString};
 use std::io::Write;
 
 pub const HELP: &str = "\
 psp compare FILE TYPED
+psp compare --all FOLDER
 
-Compares a table typed by hand with the layers of a file and shows the first difference of each
-layer; the status is 1 if there is any. TYPED is comma-separated (RFC 4180), a header line may
-stand first, and each row is
+Compares a table typed by hand with the layers of a file and shows what differs, a line for each
+layer or row; the last line counts layers, rows and differences. The status is 0 if there is no
+difference, 1 if there is any or the file is refused, 2 for wrong use or what cannot be read.
+
+A row of TYPED is
   order,name,left,top,width,height
 The order is the layer number: it counts from 0, and the bottom layer comes first. The rectangle is
-the saved image rectangle, as psp layers shows it. Names are compared byte by byte, so a table with
-accents is to be saved as Windows-1252. A field with a comma or a quote is quoted.
+the saved image rectangle. psp layers FILE --csv prints the very form.
+A heading may stand first: these six words, in any order and letter case. Columns are then read by
+their titles. Any other first line is a row. A row that cannot be read is a difference.
+Fields are separated by commas, semicolons or tabs: as a line sep=; says, or else as the heading
+or the first row has them. Lines end in CRLF, CR or LF. Blank rows, and empty columns to the right,
+do not count. A field with a separator, a quote or a line end is quoted, its quotes written twice.
+
+Names in the file are bytes, of Windows code page 1252 as a rule. A table in UTF-8 or UTF-16 begins
+with a byte order mark, and its names are compared as code page 1252; one with other characters is
+compared as its bytes in UTF-8, and that is said. A table without a mark is compared byte by byte.
+
+--all compares each X.psp of FOLDER with the X.csv beside it, and shows a line a file: agreed,
+different, refused, no table, unreadable (the file or its table), or no file for a table alone; then
+the total. The status is 0 if every file agreed, 1 if every file was compared and any is different,
+2 if any could not be compared: refused, unreadable, without a table, or a table without a file.
 ";
 
 pub fn run(words: &[OsString]) -> Result<(), Failure> {
-    let [file, typed] = Arguments::parse(words, &[])?.operands("compare FILE TYPED")?;
-    if file == "-" && typed == "-" {
+    let arguments = Arguments::parse(words, &[Known::Flag("--all")])?;
+    if arguments.option("--all").is_some() {
+        let [folder] = arguments.operands("compare --all FOLDER")?;
+        return collect::run(&folder);
+    }
+    let [file, table] = arguments.operands("compare FILE TYPED")?;
+    if file == "-" && table == "-" {
         return Err(Failure::Use(
             "only one of FILE and TYPED may be -".to_string(),
         ));
     }
-    let layers = layers(&Accepted::read(&file)?)?;
-    let text = accepted::read(&typed)?;
-    let rows = typed::rows(&text).map_err(|why| accepted::unreadable(&typed, &why))?;
-    let differences = typed::differences(&layers, &rows);
+    let (said, report) = compared(&file, &table)?;
     let mut out = output::standard();
-    for line in &differences {
+    for line in said.iter().chain(&report.lines) {
         writeln!(out, "{}", line)?;
     }
-    if differences.is_empty() {
-        writeln!(out, "no difference, {} layers", layers.len())?;
-    }
+    writeln!(out, "{}", report.closing())?;
     out.flush()?;
-    if differences.is_empty() {
+    if report.is_equal() {
         Ok(())
     } else {
         Err(Failure::Different)
     }
 }
 
-fn layers(file: &Accepted) -> Result<Vec<Layer>, Failure> {
-    let layer = |k| {
-        Ok(Layer {
-            name: file.name(k)?.to_vec(),
-            rectangle: layers::sides(&file.layer(k)?.image.saved),
-        })
-    };
-    file.layers().map(layer).collect()
+/// What is said on how a table was read, and how it differs from the file's.
+pub fn compared(file: &OsStr, table: &OsStr) -> Result<(Vec<String>, Report), Failure> {
+    let layers = export::layers(&Accepted::read(file)?)?;
+    let text = accepted::read(table)?;
+    let typed = typed::table(&text).map_err(|why| accepted::unreadable(table, &why))?;
+    Ok((typed.said, difference::report(&layers, &typed.rows)))
 }

@@ -1,8 +1,8 @@
 //! `psp facts`: every field of the image and of each layer.
 
-use crate::accepted::Accepted;
 use crate::arguments::Arguments;
 use crate::failure::Failure;
+use crate::found::Found;
 use crate::name;
 use crate::output;
 use crate::psp;
@@ -15,21 +15,24 @@ psp facts FILE
 
 Shows every field of the image chunk, with dots per centimetre where there are any, and then every
 field of each layer's chunk in file order. A rectangle is left, top, right, bottom, the lower right
-corner exclusive.
+corner exclusive. Of a refused file the fields of what was found before its place are shown, below a
+first line that says so.
 ";
 
 pub fn run(words: &[OsString]) -> Result<(), Failure> {
     let [file] = Arguments::parse(words, &[])?.operands("facts FILE")?;
-    let file = Accepted::read(&file)?;
-    let image = file.image()?;
+    let found = Found::read(&file)?;
     let mut out = output::standard();
-    show(&mut out, "image", &image_facts(&image))?;
-    for k in file.layers() {
-        let facts = layer_facts(file.name(k)?, &file.layer(k)?);
-        show(&mut out, &format!("layer {}", k), &facts)?;
+    if let Some(image) = &found.image {
+        found.mark(&mut out)?;
+        show(&mut out, "image", &image_facts(image))?;
+    }
+    for layer in &found.layers {
+        let title = format!("layer {}", layer.number);
+        show(&mut out, &title, &layer_facts(&layer.name, &layer.chunk))?;
     }
     out.flush()?;
-    Ok(())
+    found.end()
 }
 
 type Fact = (&'static str, String);
@@ -69,7 +72,7 @@ fn image_facts(image: &ImageChunk) -> Vec<Fact> {
 
 fn layer_facts(name: &[u8], layer: &LayerChunk) -> Vec<Fact> {
     vec![
-        ("name", name::text(name)),
+        ("name", name::quoted(name)),
         ("type", layer.kind.to_string()),
         ("image border", corners(&layer.image.border)),
         ("saved image", corners(&layer.image.saved)),

@@ -7,6 +7,8 @@ use std::io;
 pub enum Failure {
     /// The library refused the file.
     Refused(String),
+    /// The file has no such layer or channel.
+    Absent(String),
     /// The file and a typed table differ, and the output says where.
     Different,
     /// The words of the command make no sense.
@@ -20,7 +22,7 @@ pub enum Failure {
 impl Failure {
     pub fn status(&self) -> u8 {
         match self {
-            Failure::Refused(_) | Failure::Different => 1,
+            Failure::Refused(_) | Failure::Absent(_) | Failure::Different => 1,
             Failure::Use(_) | Failure::Unreadable(_) | Failure::Unwritable(_) => 2,
         }
     }
@@ -29,7 +31,9 @@ impl Failure {
     pub fn sentence(&self) -> Option<String> {
         match self {
             Failure::Different => None,
-            Failure::Refused(sentence) | Failure::Unreadable(sentence) => Some(sentence.clone()),
+            Failure::Refused(sentence)
+            | Failure::Absent(sentence)
+            | Failure::Unreadable(sentence) => Some(sentence.clone()),
             Failure::Use(sentence) => Some(format!("wrong use: {}", sentence)),
             Failure::Unwritable(error) if error.kind() == io::ErrorKind::BrokenPipe => None,
             Failure::Unwritable(error) => Some(format!("cannot write: {}", error)),
@@ -51,6 +55,7 @@ mod tests {
     #[test]
     fn a_refusal_has_status_1_and_wrong_use_2() {
         assert_eq!(Failure::Refused(String::new()).status(), 1);
+        assert_eq!(Failure::Absent(String::new()).status(), 1);
         assert_eq!(Failure::Different.status(), 1);
         assert_eq!(Failure::Use(String::new()).status(), 2);
         assert_eq!(Failure::Unreadable(String::new()).status(), 2);

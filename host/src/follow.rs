@@ -1,17 +1,17 @@
 //! `psp follow`: the listing of a file while it arrives.
 
 use crate::accepted;
-use crate::arguments::{printable, Arguments, Known};
+use crate::arguments::{Arguments, Known};
 use crate::failure::Failure;
-use crate::growth::{self, Step};
+use crate::growing::Growing;
+use crate::growth::{self, Look, Step};
 use crate::lines;
+use crate::name;
 use crate::output::{self, Progress};
-use crate::psp::ffi::{ACCEPTED, ENTRY_NUMBERS, INPUT_LIMIT, OVER_LIMIT};
+use crate::psp::ffi::{ACCEPTED, ENDS_TOO_SOON, ENTRY_NUMBERS, OVER_LIMIT, TABLE_FULL};
 use crate::psp::{self, Listed};
 use std::ffi::{OsStr, OsString};
-use std::fs::{self, File, Metadata};
-use std::io::{Read, Write};
-use std::os::unix::fs::MetadataExt;
+use std::io::Write;
 use std::thread;
 use std::time::{Duration, Instant};
 
@@ -20,8 +20,13 @@ psp follow FILE [--idle SECONDS]
 
 Lists what has arrived of a file and prints each further entry as the file grows, in the lines of
 psp list; the answer line comes last. It ends when the answer is a refusal that more bytes cannot
-change, or when no byte has come for SECONDS (10 unless given). A beginning that is a whole file
-already is told as complete so far. FILE is a file and not -.
+change, or when nothing has changed for SECONDS (10 unless given). A beginning that is a whole file
+already is told as complete so far. Where zeros stand at a refusal's place, the file may have got
+its length before its content, and it is followed on.
+
+Before the end the whole file is read again, and the answer is that of the file as it then stands.
+If bytes that were read have changed, this is said, and entries that no longer stand are printed
+again, from the first such index on. FILE is a file, not - and no pipe.
 ";
 
 const POLL: Duration = Duration::from_millis(200);
@@ -41,74 +46,36 @@ pub fn run(words: &[OsString]) -> Result<(), Failure> {
     };
     let mut file = Growing::open(&file)?;
     let mut listing = Listing::of(&file.bytes)?;
-    let mut grown = Instant::now();
+    let mut changed = Instant::now();
     loop {
-        match growth::step(listing.answer.number, grown.elapsed(), idle) {
-            Step::Enlarge => listing.enlarge(&file.bytes)?,
-            Step::End => return listing.end(),
+        let step = listing.step(changed.elapsed(), idle);
+        let look = match step {
+            Step::Enlarge => {
+                listing.enlarge(&file.bytes)?;
+                continue;
+            }
             Step::Wait => {
                 thread::sleep(POLL.min(idle));
-                if file.grow()? {
-                    grown = Instant::now();
-                    listing.again(&file.bytes)?;
-                }
+                file.look(listing.hole)?
             }
+            Step::End => file.again(listing.hole)?,
+        };
+        if look != Look::Same {
+            changed = Instant::now();
+            listing.again(&file.bytes, look)?;
+        }
+        if step == Step::End {
+            if growth::stands(look, listing.step(Duration::ZERO, idle)) {
+                return listing.end(&file);
+            }
+            thread::sleep(POLL);
         }
     }
 }
 
 fn idle(typed: &OsStr) -> Result<Duration, Failure> {
-    let typed = typed.to_string_lossy();
-    let wrong = || Failure::Use(format!("--idle {} is no time to wait", printable(&typed)));
-    growth::seconds(&typed).ok_or_else(wrong)
-}
-
-/// A file that is read as it grows, each byte once.
-struct Growing {
-    path: OsString,
-    file: File,
-    identity: (u64, u64),
-    bytes: Vec<u8>,
-}
-
-impl Growing {
-    fn open(path: &OsStr) -> Result<Growing, Failure> {
-        let opened = File::open(path).and_then(|file| Ok((file.metadata()?, file)));
-        let (data, file) =
-            opened.map_err(|error| accepted::unreadable(path, &error.to_string()))?;
-        if !data.is_file() {
-            return Err(Failure::Use(
-                "follow wants a file that can grow".to_string(),
-            ));
-        }
-        let mut growing = Growing {
-            path: path.to_os_string(),
-            file,
-            identity: identity(&data),
-            bytes: Vec::new(),
-        };
-        growing.grow()?;
-        Ok(growing)
-    }
-
-    /// Reads what has come since, at most one byte over the limit; whether anything has.
-    fn grow(&mut self) -> Result<bool, Failure> {
-        let fail = |why: &str| accepted::unreadable(&self.path, why);
-        let data = fs::metadata(&self.path).map_err(|error| fail(&error.to_string()))?;
-        if identity(&data) != self.identity || data.len() < self.bytes.len() as u64 {
-            return Err(fail("it was shortened or replaced"));
-        }
-        let room = (INPUT_LIMIT + 1).saturating_sub(self.bytes.len());
-        let read = (&self.file).take(room as u64).read_to_end(&mut self.bytes);
-        match read {
-            Ok(came) => Ok(came > 0),
-            Err(error) => Err(accepted::unreadable(&self.path, &error.to_string())),
-        }
-    }
-}
-
-fn identity(data: &Metadata) -> (u64, u64) {
-    (data.dev(), data.ino())
+    let wrong = || Failure::Use(format!("--idle {} is no time to wait", name::file(typed)));
+    growth::seconds(&typed.to_string_lossy()).ok_or_else(wrong)
 }
 
 /// The listing of what has come, and what of it was printed.
@@ -116,6 +83,9 @@ struct Listing {
     table: Vec<u32>,
     printed: Vec<u32>,
     answer: Listed,
+    /// Where zeros begin at the refusal's place that may be filled yet.
+    hole: Option<usize>,
+    hole_was_told: bool,
     progress: Progress,
 }
 
@@ -126,63 +96,106 @@ impl Listing {
             answer: psp::list(input, &mut table),
             table,
             printed: Vec::new(),
+            hole: None,
+            hole_was_told: false,
             progress: Progress::new(),
         };
-        listing.print(input.len())?;
+        listing.print(input, Look::Grown)?;
         Ok(listing)
     }
 
-    fn again(&mut self, input: &[u8]) -> Result<(), Failure> {
+    /// What to do next, when nothing has changed for a while.
+    fn step(&self, quiet: Duration, idle: Duration) -> Step {
+        growth::step(self.answer.number, self.hole.is_some(), quiet, idle)
+    }
+
+    fn again(&mut self, input: &[u8], look: Look) -> Result<(), Failure> {
+        self.progress.clear();
+        if let Look::Changed(place) = look {
+            output::say(&format!(
+                "the file was changed at {} after it was read; it is listed again",
+                place
+            ));
+        }
         self.answer = psp::list(input, &mut self.table);
-        self.print(input.len())
+        self.print(input, look)
     }
 
     /// Lists again in twice the room.
     fn enlarge(&mut self, input: &[u8]) -> Result<(), Failure> {
         self.table = accepted::zeros(self.table.len().saturating_mul(2))?;
-        self.again(input)
+        self.again(input, Look::Grown)
     }
 
     /// Prints the entries that are new, at once.
-    fn print(&mut self, length: usize) -> Result<(), Failure> {
+    fn print(&mut self, input: &[u8], look: Look) -> Result<(), Failure> {
+        self.hole = match self.answer.number {
+            ACCEPTED | OVER_LIMIT | ENDS_TOO_SOON | TABLE_FULL => None,
+            _ => growth::hole(input, self.answer.place),
+        };
         // Over the limit nothing is listed; what was printed is the listing of the beginning.
         if self.answer.number == OVER_LIMIT {
             return Ok(());
         }
         let numbers = self.answer.count.saturating_mul(ENTRY_NUMBERS);
         let listed = self.table.get(..numbers).unwrap_or(&self.table);
-        // By the proof more input takes no entry back; were it otherwise, nobody may rely on them.
-        let new = listed.strip_prefix(self.printed.as_slice());
-        let new = new.ok_or_else(|| Failure::Unreadable("an entry was taken back".to_string()))?;
+        let stand = growth::standing(&self.printed, listed);
+        if stand < self.printed.len() {
+            taken_back(stand, look)?;
+            self.printed.truncate(stand);
+        }
+        let new = listed.get(stand..).unwrap_or(&[]);
         self.progress.clear();
         let mut out = output::standard();
-        let first = self.printed.len() / ENTRY_NUMBERS;
-        for (index, entry) in (first..).zip(lines::entries(new)) {
+        for (index, entry) in (stand / ENTRY_NUMBERS..).zip(lines::entries(new)) {
             writeln!(out, "{}", lines::entry_line(index, &entry))?;
         }
         out.flush()?;
         self.printed.extend_from_slice(new);
-        self.tell(length);
+        self.tell(input.len());
         Ok(())
     }
 
-    fn tell(&self, length: usize) {
+    fn tell(&mut self, length: usize) {
         let so_far = format!("{} bytes, {} entries", length, self.answer.count);
         if self.answer.number == ACCEPTED {
             output::say(&format!("complete so far: {}", so_far));
+        }
+        if let (Some(place), false) = (self.hole, self.hole_was_told) {
+            self.hole_was_told = true;
+            output::say(&format!(
+                "zeros stand from {} on; they may be filled yet, and the file is followed on",
+                place
+            ));
         }
         self.progress.show(&so_far);
     }
 
     /// Prints the answer, which is final.
-    fn end(&self) -> Result<(), Failure> {
+    fn end(&self, file: &Growing) -> Result<(), Failure> {
         self.progress.clear();
         let mut out = output::standard();
         writeln!(out, "{}", lines::answer_line(&self.answer))?;
         out.flush()?;
         match self.answer.number {
             ACCEPTED => Ok(()),
-            _ => Err(accepted::refused(&self.answer)),
+            _ => {
+                let size = Some(file.size());
+                Err(accepted::refused(&self.answer, &file.bytes, size))
+            }
         }
     }
+}
+
+/// By the proof more input takes no entry back; were it otherwise, nobody may rely on them. Only a
+/// file whose beginning has changed has other entries.
+fn taken_back(stand: usize, look: Look) -> Result<(), Failure> {
+    if matches!(look, Look::Same | Look::Grown) {
+        return Err(Failure::Unreadable("an entry was taken back".to_string()));
+    }
+    output::say(&format!(
+        "entries from {} on no longer stand as printed",
+        stand / ENTRY_NUMBERS
+    ));
+    Ok(())
 }

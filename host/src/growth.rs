@@ -1,6 +1,6 @@
-//! What to do with the listing of a file that still grows.
+//! What to do with the listing of a file that still grows, or is still filled.
 
-use crate::psp::ffi::{ACCEPTED, ENDS_TOO_SOON, TABLE_FULL};
+use crate::psp::ffi::{ACCEPTED, ENDS_TOO_SOON, ENTRY_NUMBERS, OVER_LIMIT, TABLE_FULL};
 use std::time::Duration;
 
 /// The next step of a follower.
@@ -8,20 +8,100 @@ use std::time::Duration;
 pub enum Step {
     /// The table is full: list again in a larger one.
     Enlarge,
-    /// More bytes may change the answer.
+    /// The answer may change yet.
     Wait,
-    /// The answer stands.
+    /// The answer stands, if the file does.
     End,
 }
 
-/// The step after an answer, when no byte has come for a while. Only more input changes 0 and 2,
-/// and only more room changes 12; every other answer is the whole file's already.
-pub fn step(number: u32, quiet: Duration, idle: Duration) -> Step {
+/// The step after an answer, when nothing has changed for a while. Only more input changes 0 and 2,
+/// and only more room changes 12; any other refusal changes only where zeros at its place are
+/// filled, and one for its size not even then.
+pub fn step(number: u32, may_be_filled: bool, quiet: Duration, idle: Duration) -> Step {
     match number {
         TABLE_FULL => Step::Enlarge,
+        OVER_LIMIT => Step::End,
         ACCEPTED | ENDS_TOO_SOON if quiet < idle => Step::Wait,
+        _ if may_be_filled && quiet < idle => Step::Wait,
         _ => Step::End,
     }
+}
+
+/// A unit reaches no further from a refusal's place: a block header and the longest chunk.
+const REACH: usize = 14 + 375;
+
+/// So many zeros are no field that happens to be zero: more than a name has.
+const HOLE: usize = 512;
+
+/// Where zeros begin that may be filled yet: they stand from inside the unit at a refusal's place,
+/// for 512 bytes or to the end. A file whose room was taken before it was written looks like this.
+pub fn hole(input: &[u8], place: usize) -> Option<usize> {
+    let inside = place.checked_add(zeros_near(input.get(place..)?)?)?;
+    // What stands before the place was passed, and may be zeros that are not filled yet.
+    let before = input.get(..inside)?.iter().rev();
+    inside.checked_sub(before.take_while(|&&byte| byte == 0).count())
+}
+
+/// Where such zeros begin behind a place.
+fn zeros_near(near: &[u8]) -> Option<usize> {
+    let mut start = 0;
+    for (at, &byte) in near.iter().enumerate().take(REACH + HOLE) {
+        if byte != 0 {
+            start = at + 1;
+        } else if at + 1 - start == HOLE {
+            return Some(start);
+        }
+    }
+    let ends_here = near.len() < REACH + HOLE && start < near.len() && start <= REACH;
+    Some(start).filter(|_| ends_here)
+}
+
+/// How a file that is read again differs from what was read before.
+#[derive(Clone, Copy, Debug, PartialEq, Eq)]
+pub enum Look {
+    Same,
+    /// What was read stands, and more has come.
+    Grown,
+    /// Only zeros of the hole have changed.
+    Filled,
+    /// The first place that has changed.
+    Changed(usize),
+}
+
+/// Compares what was read before with what is there now, which is no shorter.
+pub fn look(before: &[u8], now: &[u8], hole: Option<usize>) -> Look {
+    if now.starts_with(before) {
+        return if now.len() == before.len() {
+            Look::Same
+        } else {
+            Look::Grown
+        };
+    }
+    let start = hole.unwrap_or(usize::MAX);
+    let mut pairs = before.iter().zip(now).enumerate();
+    let changed = pairs.find(|(at, (before, now))| before != now && (*at < start || **before != 0));
+    match changed {
+        Some((at, _)) => Look::Changed(at),
+        None => Look::Filled,
+    }
+}
+
+/// Whether an answer stands that was to end: of a file that was read again as it was, and of one
+/// that has grown and still is to end, since its bytes may never stop coming.
+pub fn stands(look: Look, next: Step) -> bool {
+    match look {
+        Look::Same => true,
+        Look::Grown => next == Step::End,
+        Look::Filled | Look::Changed(_) => false,
+    }
+}
+
+/// How many numbers of the printed entries still stand, in whole entries.
+pub fn standing(printed: &[u32], listed: &[u32]) -> usize {
+    let listed = listed.chunks_exact(ENTRY_NUMBERS);
+    let pairs = printed.chunks_exact(ENTRY_NUMBERS).zip(listed);
+    let same = pairs.take_while(|(printed, listed)| printed == listed);
+    same.count().saturating_mul(ENTRY_NUMBERS)
 }
 
 /// A time to wait, from what was typed: seconds, whole or with a decimal point, at most a day.
@@ -39,25 +119,104 @@ mod tests {
     use super::*;
 
     const IDLE: Duration = Duration::from_secs(10);
+    const QUIET: Duration = Duration::from_secs(9);
 
     #[test]
     fn more_input_is_awaited_after_0_and_2_only() {
         for number in 0..=12 {
             let awaited = number == 0 || number == 2;
-            let step = step(number, Duration::from_secs(9), IDLE);
+            let step = step(number, false, QUIET, IDLE);
             assert_eq!(step == Step::Wait, awaited, "{}", number);
         }
     }
 
     #[test]
+    fn a_refusal_in_zeros_is_awaited_unless_it_is_for_size() {
+        for number in 0..=11 {
+            let step = step(number, true, QUIET, IDLE);
+            assert_eq!(step == Step::Wait, number != 1, "{}", number);
+        }
+        assert_eq!(step(5, true, IDLE, IDLE), Step::End);
+    }
+
+    #[test]
     fn a_quiet_file_has_its_answer() {
-        assert_eq!(step(0, IDLE, IDLE), Step::End);
-        assert_eq!(step(2, IDLE, IDLE), Step::End);
+        assert_eq!(step(0, false, IDLE, IDLE), Step::End);
+        assert_eq!(step(2, false, IDLE, IDLE), Step::End);
     }
 
     #[test]
     fn a_full_table_is_enlarged_however_quiet_the_file() {
-        assert_eq!(step(12, IDLE, IDLE), Step::Enlarge);
+        assert_eq!(step(12, true, IDLE, IDLE), Step::Enlarge);
+    }
+
+    /// So many bytes that are not zero, then zeros, then others.
+    fn bytes(first: usize, zeros: usize, last: usize) -> Vec<u8> {
+        [vec![7; first], vec![0; zeros], vec![8; last]].concat()
+    }
+
+    #[test]
+    fn zeros_to_the_end_are_a_hole() {
+        assert_eq!(hole(&bytes(0, 36, 0), 0), Some(0));
+        assert_eq!(hole(&bytes(100, 5000, 0), 100), Some(100));
+        assert_eq!(hole(&bytes(90, 5000, 0), 100), Some(90));
+        assert_eq!(hole(&bytes(110, 1, 0), 100), Some(110));
+        assert_eq!(hole(&bytes(489, 1, 0), 100), Some(489));
+        assert_eq!(hole(&bytes(490, 1, 0), 100), None);
+        assert_eq!(hole(&bytes(490, 5000, 0), 100), None);
+        assert_eq!(hole(&bytes(100, 0, 0), 90), None);
+        assert_eq!(hole(&bytes(100, 0, 0), 100), None);
+        assert_eq!(hole(&bytes(100, 0, 0), 101), None);
+    }
+
+    #[test]
+    fn a_run_of_zeros_longer_than_a_field_is_a_hole() {
+        assert_eq!(hole(&bytes(100, 512, 9), 100), Some(100));
+        assert_eq!(hole(&bytes(489, 512, 9), 100), Some(489));
+        assert_eq!(hole(&bytes(490, 512, 9), 100), None);
+        assert_eq!(hole(&bytes(100, 511, 9000), 100), None);
+        // The zeros of a name are no hole, and those behind them may be.
+        let named = [bytes(14, 256, 3), bytes(2, 600, 1)].concat();
+        assert_eq!(hole(&named, 0), Some(275));
+    }
+
+    #[test]
+    fn what_has_changed_is_found_at_its_first_place() {
+        assert_eq!(look(b"abc", b"abc", None), Look::Same);
+        assert_eq!(look(b"abc", b"abcd", None), Look::Grown);
+        assert_eq!(look(b"abc", b"aXX", None), Look::Changed(1));
+        assert_eq!(look(b"a\0\0", b"aX\0d", None), Look::Changed(1));
+    }
+
+    #[test]
+    fn zeros_of_the_hole_are_filled_and_others_changed() {
+        assert_eq!(look(b"a\0\0\0", b"ab\0c", Some(1)), Look::Filled);
+        assert_eq!(look(b"a\0\0\0", b"a\0bcd", Some(1)), Look::Filled);
+        assert_eq!(look(b"a\0\0\0", b"Xb\0c", Some(1)), Look::Changed(0));
+        assert_eq!(look(b"\0a\0\0", b"XabX", Some(2)), Look::Changed(0));
+        assert_eq!(look(b"a\0x\0", b"abX\0", Some(1)), Look::Changed(2));
+    }
+
+    #[test]
+    fn growth_alone_keeps_no_final_answer_open() {
+        for next in [Step::Enlarge, Step::Wait, Step::End] {
+            assert!(stands(Look::Same, next));
+            assert_eq!(stands(Look::Grown, next), next == Step::End);
+            assert!(!stands(Look::Filled, next));
+            assert!(!stands(Look::Changed(0), next));
+        }
+    }
+
+    #[test]
+    fn entries_stand_up_to_the_first_that_differs() {
+        let printed: Vec<u32> = (0..39).collect();
+        assert_eq!(standing(&printed, &printed), 39);
+        assert_eq!(standing(&printed, &printed[..26]), 26);
+        assert_eq!(standing(&printed[..13], &printed), 13);
+        let mut listed = printed.clone();
+        listed[20] = 99;
+        assert_eq!(standing(&printed, &listed), 13);
+        assert_eq!(standing(&[], &listed), 0);
     }
 
     #[test]

@@ -1,9 +1,10 @@
 //! `psp layers`: the operator's table.
 
-use crate::accepted::Accepted;
 use crate::arguments::{Arguments, Known};
 use crate::columns::{Columns, Side};
+use crate::export;
 use crate::failure::Failure;
+use crate::found::Found;
 use crate::name;
 use crate::output;
 use crate::psp::ffi::Rect;
@@ -11,28 +12,41 @@ use std::ffi::OsString;
 use std::io::Write;
 
 pub const HELP: &str = "\
-psp layers FILE [--border]
+psp layers FILE [--border | --csv | --json]
 
 Shows the layers in file order, the bottom layer first: number, name, left, top, width, height,
 visible, masks. The rectangle is the saved image rectangle, the one that the layer's planes have;
-with --border it is the image border rectangle. Names are shown as Windows-1252, and a byte that
-cannot be seen as \\x1B.
+with --border it is the image border rectangle. Names are shown in quotes as Windows-1252, and a
+byte that cannot be seen as \\x1B. Of a refused file the layers found before its place are shown,
+below a first line that says so; their masks are not known where a channel is missing.
+With --csv it is the table that psp compare reads: order, name and saved rectangle under a heading,
+names in the bytes of the file, but not on a terminal where it may obey them. With --json it is an
+array of objects with order, name, the saved rectangle, border, visible and masks, for programs: in
+UTF-8, names decoded from code page 1252, whose bytes 81, 8D, 8F, 90 and 9D, which have no
+character, are \\u0081 and so on. Both show nothing of a refused file.
 ";
 
 pub fn run(words: &[OsString]) -> Result<(), Failure> {
-    let arguments = Arguments::parse(words, &[Known::Flag("--border")])?;
-    let [file] = arguments.operands("layers FILE [--border]")?;
+    let known = ["--border", "--csv", "--json"].map(Known::Flag);
+    let arguments = Arguments::parse(words, &known)?;
+    let [file] = arguments.operands("layers FILE [--border | --csv | --json]")?;
+    if let Some(form) = export::form(&arguments)? {
+        return export::print(&file, form);
+    }
     let border = arguments.option("--border").is_some();
-    let table = table(&Accepted::read(&file)?, border)?;
+    let found = Found::read(&file)?;
     let mut out = output::standard();
-    for line in table.lines() {
-        writeln!(out, "{}", line)?;
+    if !found.layers.is_empty() {
+        found.mark(&mut out)?;
+        for line in table(&found, border).lines() {
+            writeln!(out, "{}", line)?;
+        }
     }
     out.flush()?;
-    Ok(())
+    found.end()
 }
 
-fn table(file: &Accepted, border: bool) -> Result<Columns, Failure> {
+fn table(found: &Found, border: bool) -> Columns {
     let mut table = Columns::new(&[
         ("layer", Side::Right),
         ("name", Side::Left),
@@ -43,32 +57,24 @@ fn table(file: &Accepted, border: bool) -> Result<Columns, Failure> {
         ("visible", Side::Left),
         ("masks", Side::Left),
     ]);
-    for k in file.layers() {
-        let layer = file.layer(k)?;
-        let area = layer.image;
+    for layer in &found.layers {
+        let area = layer.chunk.image;
         let sides = sides(if border { &area.border } else { &area.saved });
-        let mut row = vec![k.to_string(), name::text(file.name(k)?)];
+        let visible = if layer.chunk.visible == 0 {
+            "no"
+        } else {
+            "yes"
+        };
+        let mut row = vec![layer.number.to_string(), name::quoted(&layer.name)];
         row.extend(sides.iter().map(i64::to_string));
-        row.push(if layer.visible == 0 { "no" } else { "yes" }.to_string());
-        row.push(masks(file, k));
+        row.extend([visible, layer.masks()].map(str::to_string));
         table.row(row);
     }
-    Ok(table)
+    table
 }
 
 /// Left, top, width, height.
 pub fn sides(r: &Rect) -> [i64; 4] {
     let [left, top, right, bottom] = [r.left, r.top, r.right, r.bottom].map(i64::from);
     [left, top, right - left, bottom - top]
-}
-
-fn masks(file: &Accepted, k: u32) -> String {
-    let has = |bitmap| file.channels(k).any(|channel| channel.bitmap == bitmap);
-    match (has(1), has(2)) {
-        (false, false) => "none",
-        (true, false) => "transparency",
-        (false, true) => "user",
-        (true, true) => "transparency, user",
-    }
-    .to_string()
 }

@@ -1,6 +1,6 @@
 //! `psp list`: document 01's listing.
 
-use crate::accepted;
+use crate::accepted::{self, Input};
 use crate::arguments::Arguments;
 use crate::failure::Failure;
 use crate::lines;
@@ -22,8 +22,8 @@ Of a refused file, the entries found before the place are listed.
 
 pub fn run(words: &[OsString]) -> Result<(), Failure> {
     let [file] = Arguments::parse(words, &[])?.operands("list FILE")?;
-    let input = accepted::read(&file)?;
-    let (answer, table) = accepted::list(&input)?;
+    let input = Input::read(&file)?;
+    let (answer, table) = accepted::list(&input.bytes)?;
     let mut out = output::standard();
     writeln!(out, "{}", lines::answer_line(&answer))?;
     for (index, entry) in lines::entries(&table).enumerate() {
@@ -32,6 +32,6 @@ pub fn run(words: &[OsString]) -> Result<(), Failure> {
     out.flush()?;
     match answer.number {
         ACCEPTED => Ok(()),
-        _ => Err(accepted::refused(&answer)),
+        _ => Err(input.refused(&answer)),
     }
 }

@@ -3,25 +3,47 @@
 mod accepted;
 mod answer;
 mod arguments;
+mod collect;
+mod collection;
 mod columns;
 mod compare;
 mod csv;
+mod destination;
+mod dialect;
+mod difference;
+mod encoding;
+mod export;
 mod facts;
 mod failure;
+mod fields;
 mod follow;
+mod found;
+mod growing;
 mod growth;
+mod heading;
+mod identity;
 mod layers;
 mod lines;
 mod list;
 mod name;
+mod number;
 mod output;
 mod palette;
 mod plane;
+mod table;
 mod typed;
+mod wanted;
 mod widen;
+mod words;
 
-// Named here so that modules say `crate::psp`, as they do in pure.rs.
-extern crate psp;
+extern crate psp as library;
+
+/// The library with document 01's numbers, which the command prints; modules say `crate::psp`, as
+/// they do in pure.rs.
+mod psp {
+    pub use library::ffi;
+    pub use library::numbers::*;
+}
 
 use failure::Failure;
 use std::ffi::OsString;
@@ -30,20 +52,22 @@ use std::process::ExitCode;
 
 const HELP: &str = "\
 psp list FILE                                   the blocks, in document 01's lines
-psp layers FILE [--border]                      the layers, the bottom one first
+psp layers FILE [--border | --csv | --json]     the layers, the bottom one first
 psp facts FILE                                  every field of the image and its layers
 psp palette FILE                                the palette, or the ramp of a grey image
 psp plane FILE LAYER BITMAP CHANNEL -o OUT.pgm  one plane as a picture
 psp compare FILE TYPED                          a table typed by hand against the file's
+psp compare --all FOLDER                        each X.psp against the X.csv beside it
 psp follow FILE [--idle SECONDS]                the listing while the file arrives
 psp COMMAND --help                              more on a command
 psp --version
 
 FILE may be - for standard input, except in follow. The status is 0 if the file is accepted, 1 if
-it is refused or differs, 2 for wrong use or a file that cannot be read.
+it is refused, differs or lacks what was asked for, 2 for wrong use or a file that cannot be read or
+written.
 ";
 
-const VERSION: &str = "psp 0.1.0, for Paint Shop Pro files of format 3.0\n";
+const VERSION: &str = "0.2.0";
 
 struct Command {
     help: &'static str,
@@ -63,21 +87,17 @@ fn main() -> ExitCode {
 }
 
 fn dispatch(words: &[OsString]) -> Result<(), Failure> {
-    let (first, rest) = match words.split_first() {
-        Some((first, rest)) => (first.to_string_lossy(), rest),
+    let (word, rest) = match words.split_first() {
+        Some(split) => split,
         None => return Err(Failure::Use("no command; see psp --help".to_string())),
     };
+    let first = word.to_string_lossy();
     match first.as_ref() {
         "--help" | "-h" | "help" => return print(HELP),
-        "--version" => return print(VERSION),
+        "--version" => return print(&version()),
         _ => {}
     }
-    let unknown = || {
-        Failure::Use(format!(
-            "there is no command {}",
-            arguments::printable(&first)
-        ))
-    };
+    let unknown = || Failure::Use(format!("there is no command {}", name::file(word)));
     let command = command(&first).ok_or_else(unknown)?;
     if rest.iter().any(|word| word == "--help" || word == "-h") {
         return print(command.help);
@@ -97,6 +117,15 @@ fn command(name: &str) -> Option<Command> {
         _ => return None,
     };
     Some(Command { help, run })
+}
+
+/// The command's own version, and that of the library which is linked.
+fn version() -> String {
+    format!(
+        "psp {}, library {}, for Paint Shop Pro files of format 3.0\n",
+        VERSION,
+        library::version()
+    )
 }
 
 fn print(text: &str) -> Result<(), Failure> {

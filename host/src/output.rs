@@ -13,6 +13,13 @@ pub fn say(sentence: &str) {
     let _ = writeln!(io::stderr(), "psp: {}", sentence);
 }
 
+/// Whether an output, named as in /dev, is a terminal.
+pub fn is_terminal(output: &str) -> bool {
+    let target = fs::canonicalize(output).unwrap_or_default();
+    let target = target.to_string_lossy();
+    target.starts_with("/dev/pts/") || target.starts_with("/dev/tty")
+}
+
 /// A line on standard error that is written over, and only if that is a terminal; it is cleared
 /// before anything else is said.
 pub struct Progress {
@@ -21,10 +28,8 @@ pub struct Progress {
 
 impl Progress {
     pub fn new() -> Progress {
-        let target = fs::canonicalize("/dev/stderr").unwrap_or_default();
-        let target = target.to_string_lossy();
         Progress {
-            on_terminal: target.starts_with("/dev/pts/") || target.starts_with("/dev/tty"),
+            on_terminal: is_terminal("/dev/stderr"),
         }
     }
 

@@ -2,16 +2,14 @@
 
 use crate::accepted::{self, Accepted};
 use crate::answer;
-use crate::arguments::{printable, Arguments, Known};
+use crate::arguments::{Arguments, Known};
+use crate::destination;
 use crate::failure::Failure;
-use crate::output;
-use crate::psp::ffi::{ImageChunk, ACCEPTED, NO_LAYER};
+use crate::psp::ffi::{ImageChunk, ACCEPTED};
 use crate::psp::{self, Entry};
+use crate::wanted::{self, Number};
 use crate::widen;
-use std::ffi::{OsStr, OsString};
-use std::fs::{self, File};
-use std::io::{self, Write};
-use std::os::unix::fs::MetadataExt;
+use std::ffi::OsString;
 
 pub const HELP: &str = "\
 psp plane FILE LAYER BITMAP CHANNEL -o OUT.pgm
@@ -20,7 +18,9 @@ Reads one plane, places it on a black canvas of the image's size and writes a bi
 a pixel; -o - writes it to standard output. LAYER counts from 0, the bottom layer. BITMAP is 0 the
 image, 1 the transparency mask, 2 the user mask. CHANNEL is 0 for masks and below depth 24, and 1
 red, 2 green, 3 blue at depth 24. Pixels of a paletted image are palette indices. The greatest
-value (maxval) is 1 for an image bitmap of depth 1, 15 at depth 4, and otherwise 255.
+value (maxval) is 1 for an image bitmap of depth 1, 15 at depth 4, and otherwise 255. OUT.pgm is
+written beside its place and renamed when it is complete, so a file that stood there survives a
+failure; FILE is never written over, but of a pipe nobody can tell which file it comes from.
 ";
 
 const LINE: &str = "plane FILE LAYER BITMAP CHANNEL -o OUT.pgm";
@@ -31,37 +31,34 @@ pub fn run(words: &[OsString]) -> Result<(), Failure> {
     let out = arguments.option("-o");
     let out = out.ok_or_else(|| Failure::Use(format!("the command is psp {}", LINE)))?;
     let wanted = [
-        number(&layer, "LAYER")?,
-        number(&bitmap, "BITMAP")?,
-        number(&channel, "CHANNEL")?,
+        Number::of(&layer, "LAYER")?,
+        Number::of(&bitmap, "BITMAP")?,
+        Number::of(&channel, "CHANNEL")?,
     ];
-    let read = Accepted::read(&file)?;
-    let picture = picture(&read, wanted)?;
-    if is_same_file(&file, out) {
-        return Err(Failure::Use("OUT.pgm is FILE itself".to_string()));
-    }
-    write(out, &picture)
+    let file = Accepted::read(&file)?;
+    let picture = picture(&file, channel_of(&file, &wanted)?)?;
+    destination::write(out, &picture, file.identity)
 }
 
-fn number(word: &OsStr, title: &str) -> Result<u32, Failure> {
-    let word = word.to_string_lossy();
-    let wrong = |_| Failure::Use(format!("{} {} is no number", title, printable(&word)));
-    word.parse().map_err(wrong)
+/// The channel that is wanted.
+fn channel_of<'a>(
+    file: &'a Accepted,
+    [layer, bitmap, channel]: &[Number; 3],
+) -> Result<&'a Entry, Failure> {
+    let k = file.layers().find(|&k| layer.is(k));
+    let k = k.ok_or_else(|| wanted::no_layer(layer, file.layers().count()))?;
+    let is_it = |entry: &&Entry| bitmap.is(entry.bitmap) && channel.is(entry.channel);
+    file.channels(k).find(is_it).ok_or_else(|| {
+        let has = file.channels(k).map(|entry| (entry.bitmap, entry.channel));
+        wanted::no_channel(k, &has.collect::<Vec<_>>(), [bitmap, channel])
+    })
 }
 
-/// The PGM of a layer's bitmap and channel.
-fn picture(file: &Accepted, [k, bitmap, channel]: [u32; 3]) -> Result<Vec<u8>, Failure> {
-    if !file.layers().any(|layer| layer == k) {
-        return Err(Failure::Refused(answer::refusal(NO_LAYER)));
-    }
-    let is_it = |entry: &&Entry| entry.bitmap == bitmap && entry.channel == channel;
-    let entry = file.channels(k).find(is_it).ok_or_else(|| {
-        let missing = format!("layer {} has no bitmap {} channel {}", k, bitmap, channel);
-        Failure::Use(missing)
-    })?;
+/// The PGM of a channel.
+fn picture(file: &Accepted, entry: &Entry) -> Result<Vec<u8>, Failure> {
     let image = file.image()?;
     let bits = match image.depth {
-        depth if bitmap == 0 && depth < 8 => depth,
+        depth if entry.bitmap == 0 && depth < 8 => depth,
         _ => 8,
     };
     let plane = plane(file, entry, &image, bits)?;
@@ -118,27 +115,4 @@ fn canvas(
     let mut canvas = accepted::zeros(width as usize * height as usize)?;
     let number = psp::place(width, height, &mut canvas, area.saved, plane);
     accepted::good(number, canvas)
-}
-
-/// Whether writing `out` would destroy `file`.
-fn is_same_file(file: &OsStr, out: &OsStr) -> bool {
-    let identity = |path| fs::metadata(path).map(|data| (data.dev(), data.ino())).ok();
-    match (identity(file), identity(out)) {
-        (Some(one), Some(other)) => file != "-" && one == other,
-        _ => false,
-    }
-}
-
-fn write(out: &OsStr, picture: &[u8]) -> Result<(), Failure> {
-    if out == "-" {
-        let mut standard = output::standard();
-        standard.write_all(picture)?;
-        return Ok(standard.flush()?);
-    }
-    let named = |error: io::Error| {
-        let named = format!("{}: {}", printable(&out.to_string_lossy()), error);
-        Failure::Unwritable(io::Error::new(error.kind(), named))
-    };
-    let written = File::create(out).and_then(|mut file| file.write_all(picture));
-    written.map_err(named)
 }

@@ -6,15 +6,30 @@
 
 mod answer;
 mod arguments;
+mod collection;
 mod columns;
 mod csv;
+mod destination;
+mod dialect;
+mod difference;
+mod encoding;
 mod failure;
+mod fields;
 mod growth;
+mod heading;
+mod identity;
 mod lines;
+#[cfg(test)]
+mod mutated;
 mod name;
+mod number;
+mod table;
 mod typed;
+mod wanted;
 mod widen;
+mod words;
 
 mod psp {
     pub mod ffi;
+    pub mod refusal;
 }

@@ -1,129 +1,183 @@
-//! A table of layers typed by hand, and how it differs from the file's.
+//! A table of layers typed by hand: its rows, and what in them cannot be read.
 
 use crate::csv::{self, Record};
+use crate::dialect;
+use crate::encoding::{self, Encoding};
+use crate::heading::{self, Columns, AS_DOCUMENTED, TITLES};
 use crate::name;
+use crate::number::whole;
+use crate::words::counted;
 
-/// A layer as an operator sees it.
+/// A typed table is at most so long; one of 64 layers is far shorter.
+pub const LIMIT: usize = 1 << 20;
+
+/// A typed name: the bytes that are compared, and how it is shown.
 #[derive(Clone, Debug, PartialEq, Eq)]
-pub struct Layer {
-    pub name: Vec<u8>,
-    /// Left, top, width, height.
-    pub rectangle: [i64; 4],
+pub struct Name {
+    pub bytes: Vec<u8>,
+    pub shown: String,
 }
 
-/// A typed row: the line that it stands on, its layer number, and what it says of the layer.
+/// A typed row. What could not be read is none, and has its sentence among the faults.
 #[derive(Clone, Debug, PartialEq, Eq)]
 pub struct Row {
     pub line: usize,
-    pub order: i64,
-    pub layer: Layer,
+    pub order: Option<i64>,
+    pub name: Option<Name>,
+    /// Left, top, width, height.
+    pub sides: [Option<i64>; 4],
+    pub faults: Vec<String>,
 }
 
-const SIDES: [&str; 4] = ["left", "top", "width", "height"];
-
-/// The rows of a typed table; a first line whose order is no number is a header.
-pub fn rows(text: &[u8]) -> Result<Vec<Row>, String> {
-    let records = csv::records(text)
-        .map_err(|line| format!("line {}: a quote stands wrong or is not closed", line))?;
-    let headers = records.iter().take(1).filter(|first| is_header(first));
-    records.iter().skip(headers.count()).map(row).collect()
+/// A typed table, and sentences on how it was read.
+#[derive(Clone, Debug, PartialEq, Eq)]
+pub struct Table {
+    pub rows: Vec<Row>,
+    pub said: Vec<String>,
 }
 
-fn is_header(record: &Record) -> bool {
-    record
-        .fields
-        .first()
-        .and_then(|field| number(field))
-        .is_none()
-}
-
-fn row(record: &Record) -> Result<Row, String> {
-    let line = record.line;
-    let (order, name, sides) = match record.fields.as_slice() {
-        [order, name, left, top, width, height] => (order, name, [left, top, width, height]),
-        fields => return Err(format!("line {}: {} fields and not 6", line, fields.len())),
-    };
-    let integer = |field: &[u8], title: &str| {
-        number(field).ok_or_else(|| format!("line {}: the {} is no whole number", line, title))
-    };
-    let mut rectangle = [0; 4];
-    for ((side, field), title) in rectangle.iter_mut().zip(sides).zip(SIDES) {
-        *side = integer(field, title)?;
+/// The table that a file has, or why it has none.
+pub fn table(file: &[u8]) -> Result<Table, String> {
+    if file.len() > LIMIT {
+        return Err(format!("a table has at most {} bytes", LIMIT));
     }
-    Ok(Row {
-        line,
-        order: integer(order, "order")?,
-        layer: Layer {
-            name: name.clone(),
-            rectangle,
-        },
+    let text = encoding::text(file)?;
+    let dialect = dialect::dialect(&text.bytes)?;
+    let records = csv::records(dialect.rest, dialect.line, dialect.separator);
+    let mut records = records.filter(|record| !record.is_blank()).peekable();
+    let columns = records.peek().and_then(heading::columns);
+    let is_wordy = columns.is_none() && records.peek().map_or(false, is_wordy);
+    if columns.is_some() {
+        records.next();
+    }
+    let mut reader = Reader {
+        columns: columns.unwrap_or(AS_DOCUMENTED),
+        encoding: text.encoding,
+        said: Vec::new(),
+    };
+    let how = format!("read: {}; {}", dialect.sentence(), text.encoding.sentence());
+    reader.said.push(how);
+    let mut rows: Vec<Row> = records.map(|record| reader.row(&record)).collect();
+    for first in rows.iter_mut().take(usize::from(is_wordy)) {
+        let words = TITLES.join(", ");
+        first
+            .faults
+            .push(format!("a heading has the words {}", words));
+    }
+    Ok(Table {
+        rows,
+        said: reader.said,
     })
 }
 
-/// A whole number with spaces around it or none.
-fn number(field: &[u8]) -> Option<i64> {
-    std::str::from_utf8(field).ok()?.trim().parse().ok()
+/// Whether a row has no digit; a first one was then meant for a heading.
+fn is_wordy(record: &Record) -> bool {
+    !record.text.iter().any(u8::is_ascii_digit)
 }
 
-/// A line for the first difference of each layer, then for rows that are no layer's, then for the
-/// first row in a wrong order. The row of a layer is the one with its number.
-pub fn differences(file: &[Layer], typed: &[Row]) -> Vec<String> {
-    let mut found = Vec::new();
-    for (order, layer) in (0..).zip(file) {
-        let mut rows = typed.iter().filter(|row| row.order == order);
-        match rows.next() {
-            None => found.push(format!("layer {}: missing from the table", order)),
-            Some(row) => found.extend(first_difference(layer, row)),
+fn second_heading(line: usize) -> Row {
+    Row {
+        line,
+        order: None,
+        name: None,
+        sides: [None; 4],
+        faults: vec!["a heading, which is to stand first".to_string()],
+    }
+}
+
+struct Reader {
+    columns: Columns,
+    encoding: Encoding,
+    said: Vec<String>,
+}
+
+impl Reader {
+    fn row(&mut self, record: &Record) -> Row {
+        if heading::columns(record).is_some() {
+            return second_heading(record.line);
         }
-        found.extend(rows.map(|row| format!("layer {}: again on line {}", order, row.line)));
+        let mut faults = Vec::new();
+        let fields = self.columns.map(|column| record.fields.get(column));
+        let mut numbers = [None; 6];
+        for ((number, field), title) in numbers.iter_mut().zip(fields).zip(TITLES) {
+            let field = field.filter(|_| title != "name");
+            match field.map(|field| (field, whole(field))) {
+                Some((_, Ok(typed))) => *number = Some(typed),
+                Some((field, Err(why))) => {
+                    faults.push(format!("{} {} {}", title, self.shown(field), why));
+                }
+                None => {}
+            }
+        }
+        if record.fields.len() == 1 {
+            // The whole row is shown as one that lacks columns.
+            faults.clear();
+        }
+        faults.extend(self.wrong_columns(record));
+        let [order, _, left, top, width, height] = numbers;
+        let [_, name, ..] = fields;
+        Row {
+            line: record.line,
+            order,
+            name: name.map(|field| self.name(field, record.line)),
+            sides: [left, top, width, height],
+            faults,
+        }
     }
-    let is_extra = |row: &&Row| usize::try_from(row.order).map_or(true, |k| k >= file.len());
-    found.extend(typed.iter().filter(is_extra).map(|row| {
-        format!(
-            "line {}: order {}, and the file has no such layer",
-            row.line, row.order
-        )
-    }));
-    found.extend(wrong_order(typed));
-    found.extend(counted_from_1(file, typed));
-    found
-}
 
-fn first_difference(layer: &Layer, row: &Row) -> Option<String> {
-    let here = format!("layer {} (line {})", row.order, row.line);
-    if layer.name != row.layer.name {
-        return Some(format!(
-            "{}: name \"{}\" in the file, \"{}\" typed",
-            here,
-            name::text(&layer.name),
-            name::text(&row.layer.name)
-        ));
+    /// What is wrong with a row besides its numbers: a quote, columns missing, text beyond them.
+    fn wrong_columns(&self, record: &Record) -> Vec<String> {
+        let found = record.fields.len();
+        if let Some(wrong) = record.wrong {
+            let title = heading::title(&self.columns, found);
+            return vec![format!(
+                "{} {}, in {}",
+                title,
+                wrong,
+                self.shown(record.text)
+            )];
+        }
+        let is_missing = |(&column, _): &(&usize, &str)| column >= found;
+        if let Some((_, title)) = self.columns.iter().zip(TITLES).find(is_missing) {
+            let has = counted(found, "column");
+            let row = self.shown(record.text);
+            return vec![format!("{} is missing, {} of 6 in {}", title, has, row)];
+        }
+        let beyond = record.fields.iter().enumerate().skip(TITLES.len());
+        beyond
+            .filter(|(_, field)| !csv::is_blank(field))
+            .map(|(column, field)| format!("column {} has {}", column + 1, self.shown(field)))
+            .collect()
     }
-    let sides = layer.rectangle.iter().zip(&row.layer.rectangle).zip(SIDES);
-    let ((real, typed), title) = sides.into_iter().find(|((real, typed), _)| real != typed)?;
-    Some(format!(
-        "{}: {} {} in the file, {} typed",
-        here, title, real, typed
-    ))
-}
 
-fn wrong_order(typed: &[Row]) -> Option<String> {
-    let mut pairs = typed.iter().zip(typed.iter().skip(1));
-    let (before, row) = pairs.find(|(before, row)| row.order < before.order)?;
-    Some(format!(
-        "line {}: wrong order, {} after {}; the bottom layer, 0, comes first",
-        row.line, row.order, before.order
-    ))
-}
+    /// A decoded name is the code page's where each of its characters has a byte there.
+    fn name(&mut self, field: &[u8], line: usize) -> Name {
+        let text = std::str::from_utf8(field).ok();
+        let text = text.filter(|_| self.encoding.is_decoded());
+        let bytes = match text.map(name::encoded) {
+            Some(Some(bytes)) => bytes,
+            Some(None) => {
+                self.said.push(format!(
+                    "line {}: name {} has characters that code page 1252 has not; compared as bytes",
+                    line,
+                    self.shown(field)
+                ));
+                field.to_vec()
+            }
+            None => field.to_vec(),
+        };
+        Name {
+            bytes,
+            shown: self.shown(field),
+        }
+    }
 
-/// The slip behind a difference in every row.
-fn counted_from_1(file: &[Layer], typed: &[Row]) -> Option<String> {
-    let least = typed.iter().map(|row| row.order).min()?;
-    let greatest = typed.iter().map(|row| row.order).max()?;
-    if least == 1 && usize::try_from(greatest) == Ok(file.len()) {
-        Some("the table seems to count from 1; layer numbers count from 0".to_string())
-    } else {
-        None
+    /// A part of the text in quotes.
+    fn shown(&self, part: &[u8]) -> String {
+        match std::str::from_utf8(part) {
+            Ok(text) if self.encoding.is_decoded() => name::quoted_text(text),
+            _ => name::quoted(part),
+        }
     }
 }
 
@@ -131,89 +185,101 @@ fn counted_from_1(file: &[Layer], typed: &[Row]) -> Option<String> {
 mod tests {
     use super::*;
 
-    fn layer(name: &[u8], rectangle: [i64; 4]) -> Layer {
-        Layer {
-            name: name.to_vec(),
-            rectangle,
-        }
+    fn rows(text: &[u8]) -> Vec<Row> {
+        table(text).expect("a table").rows
     }
 
-    fn file() -> Vec<Layer> {
-        vec![
-            layer(b"Base, white", [0, 0, 5, 5]),
-            layer(b"Gold", [-1, 2, 3, 4]),
-        ]
+    fn faults(text: &[u8]) -> Vec<String> {
+        rows(text).into_iter().flat_map(|row| row.faults).collect()
     }
 
-    fn compared(text: &[u8]) -> Vec<String> {
-        differences(&file(), &rows(text).expect("a typed table"))
+    fn said(text: &[u8]) -> Vec<String> {
+        table(text).expect("a table").said
     }
 
     #[test]
-    fn a_true_table_differs_nowhere() {
-        let text = b"0,\"Base, white\",0,0,5,5\n1,Gold,-1,2,3,4\n";
-        assert_eq!(compared(text), [""; 0]);
-        let header = &b"order,name,left,top,width,height\r\n"[..];
-        let rows = &b"0,\"Base, white\",0, 0,5 ,5\r\n1,Gold,-1,2,3,4\r\n"[..];
-        assert_eq!(compared(&[header, rows].concat()), [""; 0]);
+    fn columns_are_read_by_their_titles() {
+        let row = Row {
+            line: 2,
+            order: Some(0),
+            name: Some(Name {
+                bytes: b"Gold".to_vec(),
+                shown: "\"Gold\"".to_string(),
+            }),
+            sides: [Some(-1), Some(2), Some(3), Some(4)],
+            faults: Vec::new(),
+        };
+        let text = b"name,order,height,width,left,top\nGold, 0 ,4,3,-1,2\n";
+        assert_eq!(rows(text), [row.clone()]);
+        assert_eq!(rows(b"\n0,Gold,-1,2,3,4,,\n,,,,,\n"), [row]);
     }
 
     #[test]
-    fn only_the_first_difference_of_a_layer_is_told() {
-        let text = b"0,Base,0,0,5,5\n1,Gold,-1,2,33,44\n";
+    fn what_cannot_be_read_has_its_column_and_text() {
         let expected = [
-            "layer 0 (line 1): name \"Base, white\" in the file, \"Base\" typed",
-            "layer 1 (line 2): width 3 in the file, 33 typed",
+            "order \"O\" is no whole number",
+            "width \"\" is no whole number",
+            "top \"9223372036854775808\" has too many digits",
+            "column 7 has \"x\"",
         ];
-        assert_eq!(compared(text), expected);
+        let text = b"O,a,1,1,1,1\n1,a,1,1,,1\n2,a,1,9223372036854775808,1,1\n3,a,1,1,1,1,x\n";
+        assert_eq!(faults(text), expected);
+        let orders: Vec<Option<i64>> = rows(text).iter().map(|row| row.order).collect();
+        assert_eq!(orders, [None, Some(1), Some(2), Some(3)]);
     }
 
     #[test]
-    fn names_are_bytes() {
-        let text = b"0,\"Base, white\",0,0,5,5\n1,gold\x1B,-1,2,3,4\n";
-        let expected = ["layer 1 (line 2): name \"Gold\" in the file, \"gold\\x1B\" typed"];
-        assert_eq!(compared(text), expected);
+    fn a_row_that_is_too_short_names_what_is_missing() {
+        let expected = ["height is missing, 5 columns of 6 in \"0,a,1,1,1\""];
+        assert_eq!(faults(b"0,a,1,1,1\n"), expected);
+        let expected = ["name is missing, 1 column of 6 in \"0|a|1\""];
+        assert_eq!(faults(b"0|a|1\n"), expected);
+        let text = b"height,name,left,top,width,order\n0,a\n";
+        let expected = ["order is missing, 2 columns of 6 in \"0,a\""];
+        assert_eq!(faults(text), expected);
     }
 
     #[test]
-    fn missing_repeated_and_extra_rows_are_told() {
-        let text = b"1,Gold,-1,2,3,4\n1,Gold,-1,2,3,4\n2,x,0,0,0,0\n-1,x,0,0,0,0\n";
+    fn a_wrong_quote_hides_no_other_row() {
+        let text = b"0,\"a,1,1,1,1\n1,b,1,1,1,1\n";
+        let expected = ["name has a quote that is not closed, in \"0,\\\"a,1,1,1,1\""];
+        assert_eq!(faults(text), expected);
+        let orders: Vec<Option<i64>> = rows(text).iter().map(|row| row.order).collect();
+        assert_eq!(orders, [Some(0), Some(1)]);
+    }
+
+    #[test]
+    fn a_row_that_was_meant_for_a_heading_is_told_as_such() {
+        let last = faults(b"order,name,left,top,width,hight\n0,a,1,1,1,1\n").pop();
+        let expected = "a heading has the words order, name, left, top, width, height";
+        assert_eq!(last.as_deref(), Some(expected));
+        assert_eq!(faults(b"O,a,1,1,1,1\n").len(), 1);
+    }
+
+    #[test]
+    fn a_heading_in_another_place_is_told() {
+        let heading = "order,name,left,top,width,height\n";
+        let expected = ["a heading, which is to stand first"];
+        assert_eq!(faults([heading, heading].concat().as_bytes()), expected);
+    }
+
+    #[test]
+    fn how_it_was_read_is_said() {
+        let expected = ["read: fields between tabs, by the first row; names compared as bytes"];
+        assert_eq!(said(b"0\ta\t1\t1\t1\t1\n"), expected);
+        let text = "\u{FEFF}sep=;\n0;G\u{43E}ld;1;1;1;1\n";
         let expected = [
-            "layer 0: missing from the table",
-            "layer 1: again on line 2",
-            "line 3: order 2, and the file has no such layer",
-            "line 4: order -1, and the file has no such layer",
-            "line 4: wrong order, -1 after 2; the bottom layer, 0, comes first",
+            "read: fields between semicolons, by the sep= line; \
+                UTF-8 with a mark, names compared as code page 1252",
+            "line 2: name \"G\\u{43E}ld\" has characters that code page 1252 has not; \
+                compared as bytes",
         ];
-        assert_eq!(compared(text), expected);
+        assert_eq!(said(text.as_bytes()), expected);
     }
 
     #[test]
-    fn a_table_from_the_top_is_in_a_wrong_order() {
-        let text = b"1,Gold,-1,2,3,4\n0,\"Base, white\",0,0,5,5\n";
-        let expected = ["line 2: wrong order, 0 after 1; the bottom layer, 0, comes first"];
-        assert_eq!(compared(text), expected);
-    }
-
-    #[test]
-    fn a_table_that_counts_from_1_is_told() {
-        let told = compared(b"1,\"Base, white\",0,0,5,5\n2,Gold,-1,2,3,4\n");
-        let expected = "the table seems to count from 1; layer numbers count from 0";
-        assert_eq!(told.last().map(String::as_str), Some(expected));
-    }
-
-    #[test]
-    fn a_table_that_cannot_be_read_is_told_by_its_line() {
-        assert_eq!(
-            rows(b"0,a,1\n"),
-            Err("line 1: 3 fields and not 6".to_string())
-        );
-        let word = b"order,name,left,top,width,height\n0,a,1,x,1,1\n";
-        assert_eq!(
-            rows(word),
-            Err("line 2: the top is no whole number".to_string())
-        );
-        let quote = Err("line 1: a quote stands wrong or is not closed".to_string());
-        assert_eq!(rows(b"0,\"a\n"), quote);
+    fn a_file_that_is_too_long_is_no_table() {
+        assert!(table(&vec![b'x'; LIMIT]).is_ok());
+        assert!(table(&vec![b'x'; LIMIT + 1]).is_err());
     }
 }

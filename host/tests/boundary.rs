@@ -1,7 +1,8 @@
 //! Every function of the boundary, through the safe wrapper and the archive: document 01's worked
-//! values, its file of 521 bytes, and slices of length 0. Built and run by host/check.
+//! values, its file of 521 bytes, and slices of length 0; with numbers, and with results. Built and
+//! run by host/check.
 
-use psp::{Entry, Rect};
+use psp::{numbers, Entry, Rect, Refusal, RefusedListing, RefusedPlane};
 
 /// Document 01's file: a 1 by 1 grey image, raw, with one layer and one channel.
 fn grey() -> Vec<u8> {
@@ -50,15 +51,18 @@ const SQUARE: Rect = Rect {
 fn the_listing_is_one_in_table_and_records() {
     let file = grey();
     let mut table = vec![7; 4 * 13 + 5];
-    let listed = psp::list(&file, &mut table);
+    let listed = numbers::list(&file, &mut table);
     assert_eq!((listed.number, listed.place, listed.count), (0, 521, 4));
     assert_eq!(table[52..], [7; 5]);
-    assert_eq!(psp::count(&file, usize::MAX), listed);
-    assert_eq!(psp::count(&file, 3).number, 12);
+    assert_eq!(numbers::count(&file, usize::MAX), listed);
+    assert_eq!(numbers::count(&file, 3).number, 12);
 
     let mut again = vec![7; table.len()];
     let mut records = [Entry::default(); 5];
-    assert_eq!(psp::list_records(&file, &mut again, &mut records), listed);
+    assert_eq!(
+        numbers::list_records(&file, &mut again, &mut records),
+        listed
+    );
     assert_eq!(again, table);
     let channel = &records[3];
     assert_eq!((channel.id, channel.start, channel.plane), (5, 517, 4));
@@ -68,25 +72,25 @@ fn the_listing_is_one_in_table_and_records() {
 #[test]
 fn packets_are_read_and_written() {
     let mut dest = [0xEE; 4];
-    let read = psp::unpack(&[0x83, 0x41], &mut dest, 3);
+    let read = numbers::unpack(&[0x83, 0x41], &mut dest, 3);
     assert_eq!((read.number, read.place, read.bytes), (0, 2, 3));
     assert_eq!(dest, [0x41, 0x41, 0x41, 0xEE]);
-    assert_eq!(psp::unpack(&[0x81, 7, 0], &mut dest, 1).number, 23);
+    assert_eq!(numbers::unpack(&[0x81, 7, 0], &mut dest, 1).number, 23);
 
-    let packed = psp::pack(&[0x41, 0x42, 0x42, 0x42], &mut dest);
+    let packed = numbers::pack(&[0x41, 0x42, 0x42, 0x42], &mut dest);
     assert_eq!((packed.number, packed.length), (0, 4));
     assert_eq!(dest, [1, 0x41, 0x83, 0x42]);
-    assert_eq!(psp::pack(&[1, 2], &mut []).number, 30);
+    assert_eq!(numbers::pack(&[1, 2], &mut []).number, 30);
 }
 
 #[test]
 fn a_plane_is_read_and_placed() {
     let mut plane = [0; 4];
-    let read = psp::read_plane(&grey(), 517, 4, 4, 0, &mut plane);
+    let read = numbers::read_plane(&grey(), 517, 4, 4, 0, &mut plane);
     assert_eq!((read.number, read.place, read.bytes), (0, 4, 4));
     assert_eq!(plane, [9, 0, 0, 0]);
     assert_eq!(
-        psp::read_plane(&grey(), 518, 4, 4, 0, &mut plane).number,
+        numbers::read_plane(&grey(), 518, 4, 4, 0, &mut plane).number,
         27
     );
 
@@ -97,64 +101,156 @@ fn a_plane_is_read_and_placed() {
         right: 1,
         bottom: 2,
     };
-    let number = psp::place(3, 2, &mut canvas, r, &[0x10, 0x11, 0, 0]);
+    let number = numbers::place(3, 2, &mut canvas, r, &[0x10, 0x11, 0, 0]);
     assert_eq!((number, canvas), (0, [0, 0, 0, 0x11, 0, 0]));
-    assert_eq!(psp::place(3, 3, &mut canvas, r, &[]), 40);
+    assert_eq!(numbers::place(3, 3, &mut canvas, r, &[]), 40);
     let none = Rect::default();
-    assert_eq!(psp::intersect(r, SQUARE), none);
+    assert_eq!(numbers::intersect(r, SQUARE), none);
     let wide = Rect { right: 9, ..SQUARE };
-    assert_eq!(psp::intersect(SQUARE, wide), SQUARE);
+    assert_eq!(numbers::intersect(SQUARE, wide), SQUARE);
 }
 
 #[test]
 fn views_show_parts_of_what_is_lent() {
     let file = grey();
     let ramp: Vec<u8> = (0..=255).flat_map(|grey| [grey; 4]).collect();
-    let palette = psp::palette(&file, usize::MAX, &ramp);
+    let palette = numbers::palette(&file, usize::MAX, &ramp);
     assert_eq!((palette.number, palette.bytes), (0, ramp.as_slice()));
-    assert_eq!(psp::palette(&file, usize::MAX, &[]).number, 44);
-    let name = psp::name(&file, usize::MAX, 0);
+    assert_eq!(numbers::palette(&file, usize::MAX, &[]).number, 44);
+    let name = numbers::name(&file, usize::MAX, 0);
     assert_eq!((name.number, name.bytes), (0, &b"a"[..]));
-    let missing = psp::name(&file, usize::MAX, 1);
+    let missing = numbers::name(&file, usize::MAX, 1);
     assert_eq!((missing.number, missing.bytes), (45, &b""[..]));
 }
 
 #[test]
 fn facts_are_the_fields() {
     let file = grey();
-    let facts = psp::image_facts(&file, usize::MAX);
+    let facts = numbers::image_facts(&file, usize::MAX);
     let image = facts.image;
     assert_eq!((facts.number, image.width, image.height), (0, 1, 1));
     assert_eq!((image.depth, image.colours, image.grey), (8, 256, 1));
     assert_eq!((image.planes, image.layers, image.bits), (1, 1, 0));
-    assert_eq!(psp::image_facts(&file, 0).number, 12);
+    assert_eq!(numbers::image_facts(&file, 0).number, 12);
 
-    let facts = psp::layer_facts(&file, usize::MAX, 0);
+    let facts = numbers::layer_facts(&file, usize::MAX, 0);
     let layer = facts.layer;
     assert_eq!((facts.number, layer.name[0], layer.name[1]), (0, b'a', 0));
     assert_eq!((layer.image.border, layer.image.saved), (SQUARE, SQUARE));
     assert_eq!((layer.bitmaps, layer.channels), (1, 1));
-    assert_eq!(psp::layer_facts(&file, usize::MAX, 1).number, 45);
+    assert_eq!(numbers::layer_facts(&file, usize::MAX, 1).number, 45);
 }
 
 #[test]
 fn dots_per_centimetre_is_one_division() {
-    let inch = psp::dots_per_centimetre(300.0, 1);
+    let inch = numbers::dots_per_centimetre(300.0, 1);
     assert_eq!((inch.known, inch.value), (1, 300.0 / 2.54));
-    let centimetre = psp::dots_per_centimetre(300.0, 2);
+    let centimetre = numbers::dots_per_centimetre(300.0, 2);
     assert_eq!((centimetre.known, centimetre.value), (1, 300.0));
-    let none = psp::dots_per_centimetre(f64::NAN, 2);
+    let none = numbers::dots_per_centimetre(f64::NAN, 2);
     assert_eq!((none.known, none.value), (0, 0.0));
 }
 
 #[test]
 fn slices_may_be_empty() {
-    let listed = psp::list(&[], &mut []);
+    let listed = numbers::list(&[], &mut []);
     assert_eq!((listed.number, listed.place, listed.count), (2, 0, 0));
-    assert_eq!(psp::list_records(&[], &mut [], &mut []), listed);
-    assert_eq!(psp::unpack(&[], &mut [], 0).number, 0);
-    assert_eq!(psp::pack(&[], &mut []).length, 0);
-    assert_eq!(psp::read_plane(&[], 0, 0, 0, 0, &mut []).number, 0);
-    assert_eq!(psp::name(&[], 0, 0).number, 2);
-    assert_eq!(psp::palette(&[], 0, &[]).bytes, b"");
+    assert_eq!(numbers::list_records(&[], &mut [], &mut []), listed);
+    assert_eq!(numbers::unpack(&[], &mut [], 0).number, 0);
+    assert_eq!(numbers::pack(&[], &mut []).length, 0);
+    assert_eq!(numbers::read_plane(&[], 0, 0, 0, 0, &mut []).number, 0);
+    assert_eq!(numbers::name(&[], 0, 0).number, 2);
+    assert_eq!(numbers::palette(&[], 0, &[]).bytes, b"");
+}
+
+#[test]
+fn the_library_is_the_header_s_and_the_crate_s() {
+    assert_eq!(numbers::version(), psp::ffi::VERSION);
+    assert_eq!(psp::version().to_string(), "0.2.0");
+    // Where cargo builds this, its own manifest has the version too.
+    if let Some(version) = option_env!("CARGO_PKG_VERSION") {
+        assert_eq!(psp::version().to_string(), version);
+    }
+}
+
+#[test]
+fn a_listing_is_its_count_or_its_refusal() {
+    let file = grey();
+    let mut table = [0; 4 * 13];
+    let mut records = [Entry::default(); 4];
+    assert_eq!(psp::count(&file, usize::MAX), Ok(4));
+    assert_eq!(psp::list(&file, &mut table), Ok(4));
+    assert_eq!(psp::list_records(&file, &mut table, &mut records), Ok(4));
+    let full = RefusedListing {
+        refusal: Refusal::TableFull,
+        place: 88,
+        count: 1,
+    };
+    assert_eq!(psp::count(&file, 1), Err(full));
+}
+
+#[test]
+fn a_refused_listing_tells_what_was_found_before() {
+    let file = grey();
+    let mut table = [7; 4 * 13];
+    let mut records = [Entry::default(); 4];
+    let refused = RefusedListing {
+        refusal: Refusal::EndsTooSoon,
+        place: 517,
+        count: 3,
+    };
+    let cut = &file[..520];
+    assert_eq!(psp::list(cut, &mut table), Err(refused));
+    assert_eq!((table[26], table[39]), (4, 7));
+    let answer = psp::list_records(cut, &mut table, &mut records);
+    assert_eq!(answer, Err(refused));
+    let found = records.map(|entry| (entry.id, entry.owned));
+    assert_eq!(found, [(0, 52), (3, 14), (4, 389), (0, 0)]);
+    assert_eq!(refused.refusal.number(), 2);
+}
+
+#[test]
+fn a_plane_is_its_length_or_its_refusal() {
+    let mut dest = [0xEE; 4];
+    assert_eq!(psp::unpack(&[0x83, 0x41], &mut dest, 3), Ok(3));
+    let refused = RefusedPlane {
+        refusal: Refusal::PlaneTooMuch,
+        place: 2,
+    };
+    assert_eq!(psp::unpack(&[0x81, 7, 0], &mut dest, 1), Err(refused));
+    assert_eq!(psp::read_plane(&grey(), 517, 4, 4, 0, &mut dest), Ok(4));
+    assert_eq!(dest, [9, 0, 0, 0]);
+    let outside = psp::read_plane(&grey(), 518, 4, 4, 0, &mut dest);
+    let reason = outside.map_err(|refused| refused.refusal);
+    assert_eq!(reason, Err(Refusal::PlaneOutside));
+    assert_eq!(psp::pack(&[0x41, 0x41], &mut dest), Ok(3));
+    assert_eq!(psp::pack(&[1, 2], &mut []), Err(Refusal::PackNoRoom));
+    let canvas = &mut [0; 1];
+    assert_eq!(psp::place(1, 1, canvas, SQUARE, &[9, 0, 0, 0]), Ok(()));
+    assert_eq!(canvas, &[9]);
+    let none = psp::place(1, 1, canvas, SQUARE, &[]);
+    assert_eq!(none, Err(Refusal::PlaneWrong));
+    assert_eq!(psp::intersect(SQUARE, SQUARE), SQUARE);
+}
+
+#[test]
+fn a_view_is_what_it_shows_or_its_refusal() {
+    let file = grey();
+    let room = usize::MAX;
+    let ramp = [5; 1024];
+    assert_eq!(psp::palette(&file, room, &ramp), Ok(&ramp[..]));
+    assert_eq!(psp::palette(&file, room, &[]), Err(Refusal::NoRamp));
+    assert_eq!(psp::name(&file, room, 0), Ok(&b"a"[..]));
+    assert_eq!(psp::name(&file, room, 1), Err(Refusal::NoLayer));
+    assert_eq!(psp::name(&file[..9], room, 0), Err(Refusal::EndsTooSoon));
+    let depth = psp::image_facts(&file, room).map(|image| image.depth);
+    assert_eq!(depth, Ok(8));
+    let refused = psp::image_facts(&file, 0).map(|image| image.depth);
+    assert_eq!(refused, Err(Refusal::TableFull));
+    let saved = psp::layer_facts(&file, room, 0).map(|layer| layer.image.saved);
+    assert_eq!(saved, Ok(SQUARE));
+    let refused = psp::layer_facts(&file, room, 1).map(|layer| layer.channels);
+    assert_eq!(refused, Err(Refusal::NoLayer));
+    assert_eq!(psp::dots_per_centimetre(300.0, 2), Some(300.0));
+    assert_eq!(psp::dots_per_centimetre(300.0, 0), None);
 }

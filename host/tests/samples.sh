@@ -34,6 +34,8 @@ damaged mark grey521 88 'x'
 damaged length grey521 42 '\047'
 damaged place grey521 40 '\001'
 damaged field grey521 50 '\000'
+damaged rectangle grey521 397 '\002'
+damaged plane-length grey521 509 '\005'
 damaged expected mug 86 '\012'
 damaged missing mug 86 '\014'
 damaged lz77 grey521 67 '\002'
@@ -42,6 +44,13 @@ damaged lz77 grey521 67 '\002'
 damaged count128 mug 731 '\200'
 # A name that would move a terminal's cursor, with an accent and a backslash.
 damaged named grey521 116 '\033[2JCaf\351 \134'
+# A control character that UTF-8 has besides those of ASCII: the one that begins a terminal's commands.
+damaged steered grey521 116 '\302\23331m'
+# A name with quotes in it and a blank at its end.
+damaged quoted grey521 116 'Say "White" '
+# A second bank behind a file that is whole without it.
+cp grey521.psp two-banks.psp
+printf '~BK\000\003\000\000\000\000\000\000\000\000\000' >> two-banks.psp
 
 # The largest permitted input, nearly all of it a skipped block.
 cp grey521.psp large.psp

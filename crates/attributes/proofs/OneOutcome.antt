@@ -1,56 +1,55 @@
--- Any two outcomes that a contract admits are equal.
-use mathlib.Core.Path.{_≡_}
-use mathlib.Core.Bool.{Bool}
-use mathlib.Core.List.{List}
-use Prim.Native.Nat.{ℕ, _^_}
-use lib.Dec.{eqb, leb}
-use lib.Ieee.{Float}
+-- Any two results that a contract admits are equal. A leaf that also says a bound is fixed by its value.
+use Rattle.laws.specs.Outcomes.{OneResult}
 use Rattle.laws.proofs.OneOutcome.{one}
-use Rattle.attributes.specs.declared.fault.Fault.{Fault}
-use Rattle.attributes.specs.declared.image_attributes.ImageChunk.{ImageChunk}
-use Rattle.attributes.specs.declared.resolution.Density.{Density}
-use Rattle.attributes.specs.declared.resolution.Resolution.{Resolution}
-use Rattle.attributes.specs.Depth.{isDepth, colourChannels, colourBits}
-use Rattle.attributes.specs.Fault.{unlessOf}
-use Rattle.attributes.specs.ImageAttributes.{imageAt, imageFault}
-use Rattle.attributes.specs.Resolution.{resolutionAt, isResolution, isUsable, densityOf}
+use Rattle.attributes.proofs.depth.bits.Reads as bits
+use Rattle.attributes.proofs.depth.channels.Reads as channels
+use Rattle.attributes.proofs.depth.full.Reads as full
+use Rattle.attributes.proofs.depth.permitted.Reads as depth
+use Rattle.attributes.proofs.depth.within.Reads as within
+use Rattle.attributes.proofs.fault.Fault.unless.Reads as unless
+use Rattle.attributes.proofs.image_attributes.ImageChunk.decode.Reads as image
+use Rattle.attributes.proofs.image_attributes.ImageChunk.judge.Reads as image-judge
+use Rattle.attributes.proofs.resolution.Resolution.decode.Reads as resolution
+use Rattle.attributes.proofs.resolution.Resolution.per_centimetre.Reads as per-centimetre
+use Rattle.attributes.proofs.resolution.Resolution.permitted.Reads as permitted
+use Rattle.attributes.proofs.resolution.usable.Reads as usable
 
 -- ### Decoding
 
-pub image-one : (s : List ℕ) (at : ℕ) (a b : ImageChunk) → a ≡ imageAt s at → b ≡ imageAt s at → a ≡ b
-image-one s at a b = one
+pub image-one : OneResult image.Learnt
+image-one l a y z e f = one
 
-pub resolution-one : (s : List ℕ) (at : ℕ) (a b : Resolution) → a ≡ resolutionAt s at → b ≡ resolutionAt s at → a ≡ b
-resolution-one s at a b = one
+pub resolution-one : OneResult resolution.Learnt
+resolution-one l a y z e f = one
 
 -- ### Tests and judges
 
-pub image-judge-one : (c : ImageChunk) (a b : Fault) → a ≡ imageFault c → b ≡ imageFault c → a ≡ b
-image-judge-one c a b = one
+pub image-judge-one : OneResult image-judge.Learnt
+image-judge-one l a y z e f = one
 
-pub unless-one : (f : Fault) (permitted : Bool) (offset : ℕ) (a b : Fault) → a ≡ unlessOf f permitted offset → b ≡ unlessOf f permitted offset → a ≡ b
-unless-one f permitted offset a b = one
+pub unless-one : OneResult unless.Learnt
+unless-one l a y z e f = one
 
-pub permitted-one : (r : Resolution) (a b : Bool) → a ≡ isResolution r → b ≡ isResolution r → a ≡ b
-permitted-one r a b = one
+pub permitted-one : OneResult permitted.Learnt
+permitted-one l a y z e f = one
 
-pub usable-one : (x : Float) (a b : Bool) → a ≡ isUsable x → b ≡ isUsable x → a ≡ b
-usable-one x a b = one
+pub usable-one : OneResult usable.Learnt
+usable-one l a y z e f = one
 
-pub per-centimetre-one : (r : Resolution) (a b : Density) → a ≡ densityOf r → b ≡ densityOf r → a ≡ b
-per-centimetre-one r a b = one
+pub per-centimetre-one : OneResult per-centimetre.Learnt
+per-centimetre-one l a y z e f = one
 
-pub depth-one : (d : ℕ) (a b : Bool) → a ≡ isDepth d → b ≡ isDepth d → a ≡ b
-depth-one d a b = one
+pub depth-one : OneResult depth.Learnt
+depth-one l a y z e f = one
 
-pub full-one : (count d : ℕ) (a b : Bool) → a ≡ eqb count (2 ^ d) → b ≡ eqb count (2 ^ d) → a ≡ b
-full-one count d a b = one
+pub full-one : OneResult full.Learnt
+full-one l a y z e f = one
 
-pub within-one : (count d : ℕ) (a b : Bool) → a ≡ leb count (2 ^ d) → b ≡ leb count (2 ^ d) → a ≡ b
-within-one count d a b = one
+pub within-one : OneResult within.Learnt
+within-one l a y z e f = one
 
-pub channels-one : (d : ℕ) (a b : ℕ) → a ≡ colourChannels d → b ≡ colourChannels d → a ≡ b
-channels-one d a b = one
+pub channels-one : OneResult channels.Learnt
+channels-one l a y z e f p q = one (p .0) (q .0)
 
-pub bits-one : (d : ℕ) (a b : ℕ) → a ≡ colourBits d → b ≡ colourBits d → a ≡ b
-bits-one d a b = one
+pub bits-one : OneResult bits.Learnt
+bits-one l a y z e f p q = one (p .0) (q .0)

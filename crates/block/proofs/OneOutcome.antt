@@ -1,7 +1,6 @@
 -- Any two outcomes that a contract admits are equal: the code's step is known by the walk's.
 use mathlib.Core.Path.{_≡_, refl}
-use mathlib.Core.List.{List}
-use Prim.Native.Nat.{ℕ}
+use Rattle.laws.specs.Outcomes.{OneResult}
 use Rattle.laws.proofs.OneOutcome.{one, answer-one}
 use Rattle.walk.specs.Walk as walk
 use Rattle.walk.specs.Walk.{End, Stop, Leaf, Nest}
@@ -9,7 +8,7 @@ use Rattle.memory.specs.declared.state.State.{State}
 use Rattle.kinds.specs.declared.Step.{Step}
 use Rattle.kinds.specs.declared.Step.the-variants as code
 use Rattle.kinds.specs.Blocks.{told}
-use Rattle.block.specs.Step.{stepAt}
+use Rattle.block.proofs.looking.look.Reads as look
 
 back : walk.Step State → Step
 back End = code.End
@@ -24,6 +23,5 @@ told-back (code.Stop n p) = refl
 told-back (code.Leaf e next st) = refl
 told-back (code.Nest e inside st after) = refl
 
-pub look-one :
-    (s : List ℕ) (st : State) (at end levels : ℕ) (a b : Step) → told a ≡ stepAt s st at end levels → told b ≡ stepAt s st at end levels → a ≡ b
-look-one s st at end levels a b p q = answer-one told back told-back a b (one p q)
+pub look-one : OneResult look.Learnt
+look-one l a y z e f p q = answer-one told back told-back y z (one p q)

@@ -72,8 +72,8 @@ module _ (s : List ℕ) (st : State) (at end levels : ℕ) where
   moved (accepted top here all) = ends (record { inside = λ z. absurd (omega arith); whole = λ _. here })
   moved (ended inner here all) = ends (record { inside = λ _. here; whole = λ z. absurd (inner z) })
   moved (stopped h) = stops h
-  moved (leafed l) = leaf (leaf-owns l)
-  moved (nested n) = nest (nest-opens n)
+  moved (leafed h l) = leaf (leaf-owns l)
+  moved (nested h n) = nest (nest-opens n)
 
 pub moves : (s : List ℕ) → MovesOn main (length s) (stepAt s)
 moves s st at end levels order low = moved s st at end levels (stepped s st at end levels low)

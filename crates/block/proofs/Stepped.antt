@@ -1,5 +1,5 @@
 -- What one look finds, with all that was tested on the way: the one analysis of the rules that the promises stand on.
-use mathlib.Core.Path.{_≡_, refl, subst⁻¹, _∙_}
+use mathlib.Core.Path.{_≡_, refl, sym, ap, subst⁻¹, _∙_}
 use mathlib.Core.Bool.{true, false}
 use mathlib.Core.List.{List}
 use Prim.Native.Nat.{ℕ, _+_, _*_, _≤_, _<_}
@@ -16,7 +16,7 @@ use Rattle.entry.specs.Entry.{block, content, plain, ranked, filled}
 use Rattle.walk.specs.Walk.{Step, End, Stop, Leaf, Nest}
 use Rattle.walk.proofs.Unit.{unit-ind}
 use Rattle.headers.specs.declared.block_header.BlockHeader.{BlockHeader}
-use Rattle.headers.specs.BlockHeader.{blockHeaderSize, blockHeaderOf}
+use Rattle.headers.specs.BlockHeader.{blockHeaderSize, blockHeaderOf, blockHeaderAt}
 use Rattle.attributes.specs.declared.fault.Fault.the-variants.{None}
 use Rattle.attributes.specs.ImageAttributes.{imageSize, imageAt, imageFault}
 use Rattle.chunk.specs.declared.channel_information.ChannelChunk.{ChannelChunk}
@@ -136,13 +136,18 @@ module _ (s : List ℕ) (st : State) (at end levels : ℕ) where
 
   -- ### The step
 
+  -- an entry has the id of the header at its place, and all that the header announces where it is skipped
+  pub record OfHeader (e : Entry) : Type 0 where
+    pub named : e .block .id ≡ blockHeaderAt s at .id
+    pub whole : e .block .skipped ≡ 1 → e .content .stored ≡ blockHeaderAt s at .total
+
   -- the end of the input, or of the parent; a refusal here or further on; an entry
   pub data Stepped : Step State → Type 0 where
     accepted : levels ≡ main → at ≡ length s → isFull st (parentAt levels) ≡ true → Stepped End
     ended : (levels ≡ main → ⊥) → at ≡ end → isFull st (parentAt levels) ≡ true → Stepped End
     stopped : {r : Refusal} {p : ℕ} → at ≤ p → Stepped (Stop r p)
-    leafed : {e : Entry} {next : ℕ} {q : State} → LeafOf e next q → Stepped (Leaf e next q)
-    nested : {e : Entry} {inside : ℕ} {q : State} {after : ℕ} → NestOf e inside q after → Stepped (Nest e inside q after)
+    leafed : {e : Entry} {next : ℕ} {q : State} → OfHeader e → LeafOf e next q → Stepped (Leaf e next q)
+    nested : {e : Entry} {inside : ℕ} {q : State} {after : ℕ} → OfHeader e → NestOf e inside q after → Stepped (Nest e inside q after)
 
   -- a refusal at the header, and one behind it
   here : {r : Refusal} → Stepped (Stop r at)
@@ -151,12 +156,16 @@ module _ (s : List ℕ) (st : State) (at end levels : ℕ) where
   further : {r : Refusal} (n : ℕ) → Stepped (Stop r (at + n))
   further n = let low : at ≤ at + n = omega arith in stopped low
 
-  module _ (header : at + blockHeaderSize ≤ length s) (h : BlockHeader) (fits : at + blockHeaderSize + h .total ≤ end) where
+  module _ (header : at + blockHeaderSize ≤ length s) (h : BlockHeader) (same : h ≡ blockHeaderAt s at) (fits : at + blockHeaderSize + h .total ≤ end) where
+    -- an entry that is not skipped, by its id
+    entered : {e : Entry} → h .id ≡ e .block .id → e .block .skipped ≡ 0 → OfHeader e
+    entered id kept = record { named = sym id ∙ ap (λ (x : BlockHeader). x .id) same; whole = λ yes. absurd (omega arith) }
+
     skip-stepped : Begun st → (h .id ≡ 2 → st .image .depth ≡ 24) → Stepped (skipBlock s st (h .id) (h .total) at level)
     unfolding skipBlock
     skip-stepped begun unused =
         unit-ind Stepped s chunkPlace (h .total) _ (λ _. further blockHeaderSize) (λ there.
-        leafed (a-skip (record {
+        leafed (record { named = ap (λ (x : BlockHeader). x .id) same; whole = λ _. ap (λ (x : BlockHeader). x .total) same }) (a-skip (record {
           id = h .id;
           total = h .total;
           begun = begun;
@@ -168,13 +177,13 @@ module _ (s : List ℕ) (st : State) (at end levels : ℕ) where
           state = refl;
         })))
 
-    image-stepped : st .image .depth ≡ 0 → h .total ≡ imageSize → Stepped (imageBlock s st at level)
+    image-stepped : h .id ≡ 0 → st .image .depth ≡ 0 → h .total ≡ imageSize → Stepped (imageBlock s st at level)
     unfolding imageBlock
-    image-stepped none whole =
+    image-stepped id none whole =
         unit-ind Stepped s chunkPlace imageSize _ (λ _. further blockHeaderSize) (λ there.
         permitted-ind Stepped _ _ _ (λ _. further blockHeaderSize) (λ good.
         pick-ind Stepped _ _ _ (λ _. further blockHeaderSize) (λ other.
-        leafed (an-image (record {
+        leafed (entered id refl) (an-image (record {
           permitted-all = good;
           readable = eqb-false (imageAt s chunkPlace .compression) 2 other;
           first = none;
@@ -186,15 +195,15 @@ module _ (s : List ℕ) (st : State) (at end levels : ℕ) where
         })))))
 
     palette-stepped :
-        Begun st → levels ≡ main → st .palette ≡ false → (st .image .depth ≡ 24 → ⊥) → Stepped (paletteBlock s st (h .total) at level)
+        h .id ≡ 2 → Begun st → levels ≡ main → st .palette ≡ false → (st .image .depth ≡ 24 → ⊥) → Stepped (paletteBlock s st (h .total) at level)
     unfolding paletteBlock paletteCounted
-    palette-stepped begun top once used =
+    palette-stepped id begun top once used =
         unit-ind Stepped s chunkPlace paletteSize _ (λ _. further blockHeaderSize) (λ there.
         let n = paletteAt s chunkPlace .count in
         permitted-ind Stepped _ _ _ (λ _. further blockHeaderSize) (λ good.
         pick-ind Stepped _ _ _ (λ whole.
         unit-ind Stepped s (at + paletteHead) (4 * n) _ (λ _. further paletteHead) (λ all.
-        leafed (a-palette (record {
+        leafed (entered id refl) (a-palette (record {
           count = n;
           is = refl;
           permitted-all = good;
@@ -210,10 +219,10 @@ module _ (s : List ℕ) (st : State) (at end levels : ℕ) where
         }))))
         (λ _. here)))
 
-    bank-stepped : Begun st → levels ≡ main → st .bank ≡ false → Stepped (bankBlock st (h .total) at level)
+    bank-stepped : h .id ≡ 3 → Begun st → levels ≡ main → st .bank ≡ false → Stepped (bankBlock st (h .total) at level)
     unfolding bankBlock
-    bank-stepped begun top once =
-        nested (a-bank (record {
+    bank-stepped id begun top once =
+        nested (entered id refl) (a-bank (record {
           total = h .total;
           begun = begun;
           top = top;
@@ -226,12 +235,12 @@ module _ (s : List ℕ) (st : State) (at end levels : ℕ) where
           ends = refl;
         }))
 
-    layer-stepped : Begun st → levels ≡ 1 → st .found < st .image .layers → layerSize ≤ h .total → Stepped (layerBlock s st (h .total) at level)
+    layer-stepped : h .id ≡ 4 → Begun st → levels ≡ 1 → st .found < st .image .layers → layerSize ≤ h .total → Stepped (layerBlock s st (h .total) at level)
     unfolding layerBlock
-    layer-stepped begun in-bank room long =
+    layer-stepped id begun in-bank room long =
         unit-ind Stepped s chunkPlace layerSize _ (λ _. further blockHeaderSize) (λ there.
         permitted-ind Stepped _ _ _ (λ _. further blockHeaderSize) (λ good.
-        nested (a-layer (record {
+        nested (entered id refl) (a-layer (record {
           total = h .total;
           permitted-all = good;
           begun = begun;
@@ -246,9 +255,9 @@ module _ (s : List ℕ) (st : State) (at end levels : ℕ) where
           ends = refl;
         }))))
 
-    channel-stepped : Begun st → levels ≡ 0 → 0 < st .layer .left → Stepped (channelBlock s st (h .total) at level)
+    channel-stepped : h .id ≡ 5 → Begun st → levels ≡ 0 → 0 < st .layer .left → Stepped (channelBlock s st (h .total) at level)
     unfolding channelBlock channelCoded channelSized
-    channel-stepped begun deepest room =
+    channel-stepped id begun deepest room =
         unit-ind Stepped s chunkPlace channelSize _ (λ _. further blockHeaderSize) (λ there.
         let c = channelAt s chunkPlace in
         pick-ind Stepped _ _ _ (λ whole.
@@ -256,7 +265,7 @@ module _ (s : List ℕ) (st : State) (at end levels : ℕ) where
         pick-ind Stepped _ _ _ (λ waited.
         permitted-ind Stepped _ _ _ (λ _. further blockHeaderSize) (λ plane.
         unit-ind Stepped s (at + channelHead) (c .stored) _ (λ _. further channelHead) (λ all.
-        leafed (a-channel (record {
+        leafed (entered id refl) (a-channel (record {
           chunk = c;
           is = refl;
           begun = begun;
@@ -281,24 +290,24 @@ module _ (s : List ℕ) (st : State) (at end levels : ℕ) where
     kind-stepped t refused z surplus good = let x : _≡_ {A = ℕ} 0 1 = cc in absurd (omega arith)
     kind-stepped t (skip begun unused) z surplus good = let x : _≡_ {A = ℕ} 0 1 = cc in absurd (omega arith)
     kind-stepped t (image none e) z surplus good =
-        subst⁻¹ Stepped (pick-yes _ _ _ (eq-eqb (h .id) 0 e)) (image-stepped none (image-total h good e))
+        subst⁻¹ Stepped (pick-yes _ _ _ (eq-eqb (h .id) 0 e)) (image-stepped e none (image-total h good e))
     kind-stepped (by-main top) (palette begun e once used) z surplus good =
         subst⁻¹ Stepped (pick-no _ _ _ (ne-eqb (h .id) 0 (λ z. absurd (omega arith))) ∙ pick-yes _ _ _ (eq-eqb (h .id) 2 e))
-        (palette-stepped begun top once used)
+        (palette-stepped e begun top once used)
     kind-stepped (by-main top) (bank begun e once) z surplus good =
         subst⁻¹ Stepped
         (pick-no _ _ _ (ne-eqb (h .id) 0 (λ z. absurd (omega arith))) ∙ pick-no _ _ _ (ne-eqb (h .id) 2 (λ z. absurd (omega arith))) ∙ pick-yes _ _ _ (eq-eqb (h .id) 3 e))
-        (bank-stepped begun top once)
+        (bank-stepped e begun top once)
     kind-stepped (by-bank in-bank) (layer begun e) z surplus good =
         subst⁻¹ Stepped
         (pick-no _ _ _ (ne-eqb (h .id) 0 (λ z. absurd (omega arith))) ∙ pick-no _ _ _ (ne-eqb (h .id) 2 (λ z. absurd (omega arith)))
         ∙ pick-no _ _ _ (ne-eqb (h .id) 3 (λ z. absurd (omega arith))) ∙ pick-yes _ _ _ (eq-eqb (h .id) 4 e))
-        (layer-stepped begun in-bank (layer-room st (h .id) surplus e) (layer-total h good e))
+        (layer-stepped e begun in-bank (layer-room st (h .id) surplus e) (layer-total h good e))
     kind-stepped (by-layer deepest) (channel begun e) z surplus good =
         subst⁻¹ Stepped
         (pick-no _ _ _ (ne-eqb (h .id) 0 (λ z. absurd (omega arith))) ∙ pick-no _ _ _ (ne-eqb (h .id) 2 (λ z. absurd (omega arith)))
         ∙ pick-no _ _ _ (ne-eqb (h .id) 3 (λ z. absurd (omega arith))) ∙ pick-no _ _ _ (ne-eqb (h .id) 4 (λ z. absurd (omega arith))))
-        (channel-stepped begun deepest (channel-room st (h .id) surplus e))
+        (channel-stepped e begun deepest (channel-room st (h .id) surplus e))
 
     -- a block that is skipped
     passed-stepped : {p : Parent} {a : Placing} → Placed st (h .id) p a → a ≡ Skip → Stepped (skipBlock s st (h .id) (h .total) at level)
@@ -311,25 +320,25 @@ module _ (s : List ℕ) (st : State) (at end levels : ℕ) where
     passed-stepped (channel begun e) z = let x : _≡_ {A = ℕ} 0 1 = cc in absurd (omega arith)
 
   placed-stepped :
-      levels ≤ main → at + blockHeaderSize ≤ length s → (h : BlockHeader) (a : Placing) → Placed st (h .id) (parentAt levels) a
+      levels ≤ main → at + blockHeaderSize ≤ length s → (h : BlockHeader) → h ≡ blockHeaderAt s at → (a : Placing) → Placed st (h .id) (parentAt levels) a
       → Stepped (placedOf s st h a at end level)
   unfolding placedOf
-  placed-stepped low header h Refuse place = here
-  placed-stepped low header h Enter place =
+  placed-stepped low header h same Refuse place = here
+  placed-stepped low header h same Enter place =
       pick-ind Stepped (isSurplus st (h .id)) _ _ (λ _. here) (λ surplus.
       pick-ind Stepped _ _ _ (λ good.
       let parts = both (areLengths h) (isInside h at end) good in
-      kind-stepped header h (leb-true _ _ (parts .1)) (held levels low) place refl surplus (parts .0))
+      kind-stepped header h same (leb-true _ _ (parts .1)) (held levels low) place refl surplus (parts .0))
       (λ _. here))
-  placed-stepped low header h Skip place =
-      pick-ind Stepped (isInside h at end) _ _ (λ good. passed-stepped header h (leb-true _ _ good) place refl) (λ _. here)
+  placed-stepped low header h same Skip place =
+      pick-ind Stepped (isInside h at end) _ _ (λ good. passed-stepped header h same (leb-true _ _ good) place refl) (λ _. here)
 
   block-stepped : levels ≤ main → Stepped (blockAt s st at end levels)
   unfolding blockAt
   block-stepped low =
       unit-ind Stepped s at blockHeaderSize _ (λ _. here) (λ header.
       let h = blockHeaderOf (part s at blockHeaderSize) in
-      pick-ind Stepped _ _ _ (λ _. placed-stepped low header h _ (placed st (h .id) (parentAt levels))) (λ _. here))
+      pick-ind Stepped _ _ _ (λ _. placed-stepped low header h refl _ (placed st (h .id) (parentAt levels))) (λ _. here))
 
   pub stepped : levels ≤ main → Stepped (stepAt s st at end levels)
   unfolding stepAt

@@ -1,14 +1,15 @@
 -- The answers: each is told by its number alone, so the contract of `place` leaves one outcome for every input.
 use mathlib.Core.Path.{_≡_, refl}
-use mathlib.Core.List.{List}
 use Prim.Native.Nat.{ℕ}
 use lib.Dec.{eqb}
+use denote.Ref.{now}
 use Rattle.laws.specs.Choice.{pick}
+use Rattle.laws.specs.Outcomes.{OneOutcome}
 use Rattle.laws.proofs.OneOutcome.{result-one}
-use Rattle.rect.specs.declared.Rect.{Rect}
-use Rattle.canvas.specs.Placing.{placePaper, placeResult, placed}
+use Rattle.canvas.specs.Placing.{placePaper}
 use Rattle.canvas.specs.declared.PlaceAnswer.{PlaceAnswer}
 use Rattle.canvas.specs.declared.PlaceAnswer.the-variants.{Placed, BadCanvas, BadRect, BadPlane}
+use Rattle.canvas.proofs.placer.place.Reads as place
 
 -- the answer that a number tells of
 answerOf : ℕ → PlaceAnswer
@@ -21,7 +22,5 @@ answer-back BadCanvas = refl
 answer-back BadRect = refl
 answer-back BadPlane = refl
 
-pub place-one :
-    (width height : ℕ) (canvas : List ℕ) (r : Rect) (plane : List ℕ) (a b : PlaceAnswer) (x y : List ℕ)
-    → placeResult a x ≡ placed width height canvas r plane → placeResult b y ≡ placed width height canvas r plane → (a ≡ b) × (x ≡ y)
-place-one width height canvas r plane = result-one placePaper answerOf answer-back (placed width height canvas r plane)
+pub place-one : OneOutcome (λ l e. now (e .1 .1 .0)) place.Learnt
+place-one l a y z e f = result-one placePaper answerOf answer-back _ y z _ _

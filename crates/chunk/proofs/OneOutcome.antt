@@ -1,42 +1,39 @@
--- Any two outcomes that a contract admits are equal.
-use mathlib.Core.Path.{_≡_}
-use mathlib.Core.List.{List}
-use Prim.Native.Nat.{ℕ}
+-- Any two results that a contract admits are equal.
+use Rattle.laws.specs.Outcomes.{OneResult}
 use Rattle.laws.proofs.OneOutcome.{one}
-use Rattle.attributes.specs.declared.fault.Fault.{Fault}
-use Rattle.chunk.specs.declared.area.Area.{Area}
-use Rattle.chunk.specs.declared.channel_information.ChannelChunk.{ChannelChunk}
-use Rattle.chunk.specs.declared.color_palette.PaletteChunk.{PaletteChunk}
-use Rattle.chunk.specs.declared.layer_information.LayerChunk.{LayerChunk}
-use Rattle.chunk.specs.Area.{areaAt}
-use Rattle.chunk.specs.ChannelInformation.{channelAt, codesFault, planeFault}
-use Rattle.chunk.specs.ColorPalette.{paletteAt, paletteFault}
-use Rattle.chunk.specs.LayerInformation.{layerAt, layerFault}
+use Rattle.chunk.proofs.area.Area.decode.Reads as area
+use Rattle.chunk.proofs.channel_information.ChannelChunk.decode.Reads as channel
+use Rattle.chunk.proofs.channel_information.ChannelChunk.judge_codes.Reads as codes-judge
+use Rattle.chunk.proofs.channel_information.ChannelChunk.judge_plane.Reads as plane-judge
+use Rattle.chunk.proofs.color_palette.PaletteChunk.decode.Reads as palette
+use Rattle.chunk.proofs.color_palette.PaletteChunk.judge.Reads as palette-judge
+use Rattle.chunk.proofs.layer_information.LayerChunk.decode.Reads as layer
+use Rattle.chunk.proofs.layer_information.LayerChunk.judge.Reads as layer-judge
 
 -- ### Decoding
 
-pub palette-one : (s : List ℕ) (at : ℕ) (a b : PaletteChunk) → a ≡ paletteAt s at → b ≡ paletteAt s at → a ≡ b
-palette-one s at a b = one
+pub palette-one : OneResult palette.Learnt
+palette-one l a y z e f = one
 
-pub layer-one : (s : List ℕ) (at : ℕ) (a b : LayerChunk) → a ≡ layerAt s at → b ≡ layerAt s at → a ≡ b
-layer-one s at a b = one
+pub layer-one : OneResult layer.Learnt
+layer-one l a y z e f = one
 
-pub channel-one : (s : List ℕ) (at : ℕ) (a b : ChannelChunk) → a ≡ channelAt s at → b ≡ channelAt s at → a ≡ b
-channel-one s at a b = one
+pub channel-one : OneResult channel.Learnt
+channel-one l a y z e f = one
 
-pub area-one : (s : List ℕ) (at : ℕ) (a b : Area) → a ≡ areaAt s at → b ≡ areaAt s at → a ≡ b
-area-one s at a b = one
+pub area-one : OneResult area.Learnt
+area-one l a y z e f = one
 
 -- ### Judges
 
-pub palette-judge-one : (depth : ℕ) (c : PaletteChunk) (a b : Fault) → a ≡ paletteFault depth c → b ≡ paletteFault depth c → a ≡ b
-palette-judge-one depth c a b = one
+pub palette-judge-one : OneResult palette-judge.Learnt
+palette-judge-one l a y z e f = one
 
-pub layer-judge-one : (depth : ℕ) (c : LayerChunk) (a b : Fault) → a ≡ layerFault depth c → b ≡ layerFault depth c → a ≡ b
-layer-judge-one depth c a b = one
+pub layer-judge-one : OneResult layer-judge.Learnt
+layer-judge-one l a y z e f = one
 
-pub codes-judge-one : (c : ChannelChunk) (a b : Fault) → a ≡ codesFault c → b ≡ codesFault c → a ≡ b
-codes-judge-one c a b = one
+pub codes-judge-one : OneResult codes-judge.Learnt
+codes-judge-one l a y z e f = one
 
-pub plane-judge-one : (length : ℕ) (c : ChannelChunk) (a b : Fault) → a ≡ planeFault length c → b ≡ planeFault length c → a ≡ b
-plane-judge-one length c a b = one
+pub plane-judge-one : OneResult plane-judge.Learnt
+plane-judge-one l a y z e f = one

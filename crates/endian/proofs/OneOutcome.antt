@@ -1,21 +1,31 @@
--- Any two outcomes that a contract admits are equal.
-use mathlib.Core.Path.{_≡_}
-use mathlib.Core.List.{List}
-use Prim.Native.Nat.{ℕ}
-use lib.Ieee.{Float, binary64, ofBits}
-use lib.IntN.{ℤ}
+-- Any two results that a contract admits are equal.
+use Rattle.laws.specs.Outcomes.{OneResult}
 use Rattle.laws.proofs.OneOutcome.{one}
-use Rattle.endian.specs.Number.{Reads, signedAt, doubleAt}
+use Rattle.endian.proofs.u8_at.Reads as u8-at
+use Rattle.endian.proofs.u16_at.Reads as u16-at
+use Rattle.endian.proofs.u32_at.Reads as u32-at
+use Rattle.endian.proofs.u64_at.Reads as u64-at
+use Rattle.endian.proofs.i32_at.Reads as i32-at
+use Rattle.endian.proofs.f64_at.Reads as f64-at
+use Rattle.endian.proofs.double_of.Reads as double-of
 
--- `u8_at`, `u16_at`, `u32_at` and `u64_at`, by their width
-pub read-one : (n : ℕ) (s : List ℕ) (at a b : ℕ) → Reads n s at a → Reads n s at b → a ≡ b
-read-one n s at a b p q = one (p .value) (q .value)
+pub u8-at-one : OneResult u8-at.Learnt
+u8-at-one l a y z e f p q = one (p .value) (q .value)
 
-pub i32-at-one : (s : List ℕ) (at : ℕ) (a b : ℤ) → a ≡ signedAt s at → b ≡ signedAt s at → a ≡ b
-i32-at-one s at a b = one
+pub u16-at-one : OneResult u16-at.Learnt
+u16-at-one l a y z e f p q = one (p .value) (q .value)
 
-pub f64-at-one : (s : List ℕ) (at : ℕ) (a b : Float) → a ≡ doubleAt s at → b ≡ doubleAt s at → a ≡ b
-f64-at-one s at a b = one
+pub u32-at-one : OneResult u32-at.Learnt
+u32-at-one l a y z e f p q = one (p .value) (q .value)
 
-pub double-of-one : (bits : ℕ) (a b : Float) → a ≡ ofBits binary64 bits → b ≡ ofBits binary64 bits → a ≡ b
-double-of-one bits a b = one
+pub u64-at-one : OneResult u64-at.Learnt
+u64-at-one l a y z e f p q = one (p .value) (q .value)
+
+pub i32-at-one : OneResult i32-at.Learnt
+i32-at-one l a y z e f = one
+
+pub f64-at-one : OneResult f64-at.Learnt
+f64-at-one l a y z e f = one
+
+pub double-of-one : OneResult double-of.Learnt
+double-of-one l a y z e f = one

@@ -1,29 +1,27 @@
--- Any two outcomes that a contract admits are equal.
-use mathlib.Core.Path.{_≡_}
-use mathlib.Core.Bool.{Bool}
-use mathlib.Core.List.{List}
-use Prim.Native.Nat.{ℕ}
+-- Any two results that a contract admits are equal.
+use Rattle.laws.specs.Outcomes.{OneResult}
 use Rattle.laws.proofs.OneOutcome.{one}
-use Rattle.headers.specs.declared.block_header.BlockHeader.{BlockHeader}
-use Rattle.headers.specs.declared.file_header.FileHeader.{FileHeader}
-use Rattle.headers.specs.BlockHeader.{blockHeaderAt, isMarked}
-use Rattle.headers.specs.FileHeader.{fileHeaderAt, isSigned, isVersion}
+use Rattle.headers.proofs.block_header.BlockHeader.decode.Reads as block-header
+use Rattle.headers.proofs.block_header.BlockHeader.marked.Reads as marked
+use Rattle.headers.proofs.file_header.FileHeader.decode.Reads as file-header
+use Rattle.headers.proofs.file_header.FileHeader.signed.Reads as signed
+use Rattle.headers.proofs.file_header.FileHeader.version_3_0.Reads as version
 
 -- ### Decoding
 
-pub file-header-one : (s : List ℕ) (at : ℕ) (a b : FileHeader) → a ≡ fileHeaderAt s at → b ≡ fileHeaderAt s at → a ≡ b
-file-header-one s at a b = one
+pub file-header-one : OneResult file-header.Learnt
+file-header-one l a y z e f = one
 
-pub block-header-one : (s : List ℕ) (at : ℕ) (a b : BlockHeader) → a ≡ blockHeaderAt s at → b ≡ blockHeaderAt s at → a ≡ b
-block-header-one s at a b = one
+pub block-header-one : OneResult block-header.Learnt
+block-header-one l a y z e f = one
 
 -- ### Tests
 
-pub signed-one : (h : FileHeader) (a b : Bool) → a ≡ isSigned h → b ≡ isSigned h → a ≡ b
-signed-one h a b = one
+pub signed-one : OneResult signed.Learnt
+signed-one l a y z e f = one
 
-pub version-one : (h : FileHeader) (a b : Bool) → a ≡ isVersion h → b ≡ isVersion h → a ≡ b
-version-one h a b = one
+pub version-one : OneResult version.Learnt
+version-one l a y z e f = one
 
-pub marked-one : (h : BlockHeader) (a b : Bool) → a ≡ isMarked h → b ≡ isMarked h → a ≡ b
-marked-one h a b = one
+pub marked-one : OneResult marked.Learnt
+marked-one l a y z e f = one

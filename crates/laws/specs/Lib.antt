@@ -6,3 +6,4 @@ pub mod Front
 pub mod All
 pub mod Along
 pub mod Results
+pub mod Outcomes

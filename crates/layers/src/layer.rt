@@ -1,4 +1,4 @@
-// Layer, id 4: it owns its header and its chunk; the channels are inside.
+// Layer, id 4: it owns its header and its chunk; the channels are inside. Its number is its rank in file order, whatever its name.
 use answer::Refusal;
 use attributes::fault::Fault;
 use chunk::layer_information::LayerChunk;
@@ -14,13 +14,6 @@ ghost use Rattle.kinds.specs.Blocks.{told};
 ghost use Rattle.layers.specs.Layers.{layerBlock};
 
 const HEAD: usize = BlockHeader::SIZE + LayerChunk::SIZE;
-
-// A layer's number is its rank in file order. Its chunk, with its name, has no say in it.
-fn number_of(found: u32, _c: LayerChunk) -> u32
-    ensures { λ r. ⌜ r ≡ found ⌝ }
-{
-    found
-}
 
 pub fn layer_block(s: &[u8], st: State, total: u32, at: usize, level: usize) -> Step
     requires { ⌜ (Headed (now s) at level) × (st .found < st .image .layers) ⌝ }
@@ -38,7 +31,7 @@ pub fn layer_block(s: &[u8], st: State, total: u32, at: usize, level: usize) -> 
     match c.judge(st.image.depth) {
         Fault::At(offset) => wrong_field(chunk, offset),
         Fault::None => Step::Nest {
-            entry: ranked_entry(4, level, at, HEAD, number_of(st.found, c)),
+            entry: ranked_entry(4, level, at, HEAD, st.found),
             inside: at + HEAD,
             state: st.with_layer(c),
             after: chunk + total as usize,

@@ -1,7 +1,7 @@
 -- A walk behind a good file header answers 0, 2, 5 to 11 or 12: the header's own answers are never a walk's.
 use mathlib.Core.Path.{_≡_, refl, subst⁻¹}
 use mathlib.Core.Bool.{Bool, true, _&&_, _||_}
-use mathlib.Core.List.{List, []}
+use mathlib.Core.List.{List}
 use Prim.Native.Nat.{ℕ}
 use native.Mathlib.Omega.{arith}
 use lib.Dec.{eqb, leb}
@@ -13,8 +13,8 @@ use Rattle.answer.specs.declared.Answer.the-variants.{Refused}
 use Rattle.answer.specs.Answers.{answerNumber, isAccepted}
 use Rattle.walk.specs.Walk.{Step, Listing, run}
 use Rattle.walk.specs.Room.{Listed, cut}
-use Rattle.walk.specs.Invariant.{Family, Says, at-end, by-rule}
-use Rattle.walk.proofs.Invariant.{run-kept}
+use Rattle.walk.specs.Course.{Says, at-end, by-rule}
+use Rattle.walk.proofs.Course.{run-led}
 use Rattle.walk.proofs.Cut.{cut-case}
 use Rattle.headers.specs.FileHeader.{fileHeaderSize}
 use Rattle.memory.specs.declared.state.State.{State}
@@ -42,16 +42,11 @@ said-told : {at p : ℕ} {a : Answer} {k : Step State} → Says at a p k → isT
 said-told at-end = refl
 said-told (by-rule {r}) = refusal-told r
 
--- nothing is asked of where the walk came to
-abbrev Anything : Family State
-Anything levels at es st = Unit
-
 pub told-numbers :
     (s : List ℕ) (room : ℕ) → isAccepted (headOf s .answer) ≡ true → isTold (answerNumber (listed s room .answer)) ≡ true
 told-numbers s room good =
     let w = run (stepAt s) (length s) start fileHeaderSize beyond main in
-    let k = run-kept main (length s) (stepAt s) Anything (moves s) (record { leaf = λ low o is h. tt; nest = λ low o is h. tt; out = λ deep low is h. tt })
-    start fileHeaderSize beyond main [] (omega arith) (omega arith) tt in
+    let l = run-led main (length s) (stepAt s) (moves s) main (omega arith) start fileHeaderSize beyond (omega arith) in
     subst⁻¹ (λ (x : Listing State). isTold (answerNumber (cut room x .answer)) ≡ true) (behind-head s good)
-    (cut-case (λ (r : Listed). isTold (answerNumber (r .answer)) ≡ true) room w (said-told (k .stopped .says))
+    (cut-case (λ (r : Listed). isTold (answerNumber (r .answer)) ≡ true) room w (λ _. said-told (l .says))
     (λ r full f. subst⁻¹ (λ (a : Answer). isTold (answerNumber a) ≡ true) full refl))

@@ -1,29 +1,26 @@
 -- The contracts leave the code no choice: any two outcomes that a contract of the listing admits are equal.
-use mathlib.Core.Path.{_≡_}
-use mathlib.Core.List.{List}
-use Prim.Native.Nat.{ℕ}
+use denote.Ref.{now}
+use Rattle.laws.specs.Outcomes.{OneResult, OneOutcome, OneFixed}
 use Rattle.laws.proofs.OneOutcome.{one, answer-one, result-one}
 use Rattle.answer.specs.declared.Outcome.{Outcome}
 use Rattle.answer.specs.Answers.{paper}
 use Rattle.answer.proofs.OneOutcome.{outcomeOf, outcome-back}
-use Rattle.listing.specs.declared.question.Question.{Question}
 use Rattle.listing.specs.declared.question.Found.{Found}
-use Rattle.listing.specs.Question.{foundIn}
-use Rattle.listing.specs.Listing.{listed, told, lists, listsUpTo, result}
+use Rattle.listing.proofs.lister.list.Reads as list
+use Rattle.listing.proofs.lister.list_up_to.Reads as list-up-to
+use Rattle.listing.proofs.lister.count.Reads as count
+use Rattle.listing.proofs.lister.seek.Reads as seek
 
-pub list-one :
-    (s table : List ℕ) (a b : Outcome) (x y : List ℕ) → result a x ≡ lists s table → result b y ≡ lists s table → (a ≡ b) × (x ≡ y)
-list-one s table = result-one paper outcomeOf outcome-back (lists s table)
+-- the table is left beside the outcome
+pub list-one : OneOutcome (λ l e. now (e .1 .0)) list.Learnt
+list-one l a y z e f = result-one paper outcomeOf outcome-back _ y z _ _
 
-pub list-up-to-one :
-    (s : List ℕ) (most : ℕ) (table : List ℕ) (a b : Outcome) (x y : List ℕ)
-    → result a x ≡ listsUpTo s most table → result b y ≡ listsUpTo s most table → (a ≡ b) × (x ≡ y)
-list-up-to-one s most table = result-one paper outcomeOf outcome-back (listsUpTo s most table)
+pub list-up-to-one : OneOutcome (λ l e. now (e .1 .1 .0)) list-up-to.Learnt
+list-up-to-one l a y z e f = result-one paper outcomeOf outcome-back _ y z _ _
 
-pub count-one : (s : List ℕ) (room : ℕ) (a b : Outcome) → paper a ≡ told (listed s room) → paper b ≡ told (listed s room) → a ≡ b
-count-one s room a b p q = answer-one paper outcomeOf outcome-back a b (one p q)
+pub count-one : OneResult count.Learnt
+count-one l a y z e f p q = answer-one paper outcomeOf outcome-back y z (one p q)
 
-pub seek-one :
-    (s : List ℕ) (room : ℕ) (q : Question) (a b : Outcome) (x y : Found) → paper a ≡ told (listed s room) → paper b ≡ told (listed s room)
-    → x ≡ foundIn q (listed s room .entries) → y ≡ foundIn q (listed s room .entries) → (a ≡ b) × (x ≡ y)
-seek-one s room q a b x y p r u v = (count-one s room a b p r, one u v)
+-- outcome and found entry; the state after the walk is left open
+pub seek-one : OneFixed {Fixed = Outcome × Found} (λ l r e. (r .outcome, r .found)) seek.Learnt
+seek-one l a y z e f p q = λ i. (answer-one paper outcomeOf outcome-back (y .outcome) (z .outcome) (one (p .0) (q .0)) i, one (p .1) (q .1) i)

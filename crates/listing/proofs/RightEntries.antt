@@ -1,7 +1,7 @@
 -- Every listing: each entry is right by those before it, and an accepted file is complete. The views and the promises cite these.
 use mathlib.Core.Path.{_≡_, refl, sym, ap, _∙_}
 use mathlib.Core.Bool.{true, false}
-use mathlib.Core.List.{List, []}
+use mathlib.Core.List.{List}
 use Prim.Native.Nat.{ℕ, _<_}
 use native.Mathlib.Omega.{arith}
 use lib.ListN.{length, take, getD}
@@ -12,12 +12,13 @@ use Rattle.answer.specs.Answers.{isAccepted}
 use Rattle.answer.proofs.Names.{not-accepted}
 use Rattle.entry.specs.declared.Entry.{Entry}
 use Rattle.entry.specs.Entry.{block, plain}
-use Rattle.walk.specs.Walk.{Listing, ended, run}
+use Rattle.walk.specs.Walk.{Leaf, Nest, Listing, ended, run}
+use Rattle.walk.specs.Invariant.{Family}
 use Rattle.walk.specs.Room.{Listed, cut}
-use Rattle.walk.proofs.Invariant.{run-kept, cut-finished}
-use Rattle.walk.proofs.EachEntry.{cut-each}
+use Rattle.walk.proofs.Invariant.{cut-each, cut-finished}
 use Rattle.walk.proofs.Cut.{cut-ended}
 use Rattle.walk.proofs.Parents.{each-holds}
+use Rattle.headers.specs.BlockHeader.{blockHeaderAt}
 use Rattle.headers.specs.FileHeader.{fileHeaderSize}
 use Rattle.headers.specs.Places.{imagePlace}
 use Rattle.chunk.specs.Heads.{imageHead}
@@ -26,9 +27,10 @@ use Rattle.memory.specs.Parent.{main}
 use Rattle.memory.specs.State.{start}
 use Rattle.block.specs.Step.{stepAt}
 use Rattle.block.proofs.Owed.{moves}
+use Rattle.block.proofs.Stepped.{Stepped, leafed, nested, OfHeader}
 use Rattle.listing.specs.Listing.{headOf, beyond, listing, listed}
 use Rattle.listing.specs.Right as right
-use Rattle.listing.specs.Right.{isLayer, layersIn, Full, Right}
+use Rattle.listing.specs.Right.{isLayer, layersIn, Full, Right, Headed}
 use Rattle.listing.proofs.StateMeaning.{CameTo, fresh, Whole, whole, kept, rights, looked}
 
 -- behind a good header the blocks are walked, and no other header is accepted
@@ -44,7 +46,37 @@ pub each-right :
 each-right s room =
     by-head
     (λ (w : Listing State). let es = cut room w .entries in (k : ℕ) (d : Entry) → k < length es → Right s (take k es) (getD es k d)) s
-    (cut-each main (length s) (stepAt s) (moves s) (CameTo s) (kept s) (Right s) (rights s) start fileHeaderSize beyond main (omega arith) (omega arith) fresh room)
+    (cut-each main (length s) (stepAt s) (moves s) (CameTo s) (kept s) start fileHeaderSize beyond main (omega arith) (omega arith) fresh (Right s) (rights s) room)
+    (λ a p no k d h. let none = ap (λ (x : Listed). length (x .entries)) (cut-ended room a p start) in absurd (omega (arith, none)))
+
+-- each entry is of the header at its place
+abbrev Anything : Family State
+Anything levels at es st = Unit
+
+leaf-headed : {s : List ℕ} {st q : State} {at end levels next : ℕ} {e : Entry} → Stepped s st at end levels (Leaf e next q) → OfHeader s st at end levels e
+leaf-headed (leafed h i) = h
+
+nest-headed :
+    {s : List ℕ} {st q : State} {at end levels inside after : ℕ} {e : Entry} → Stepped s st at end levels (Nest e inside q after) → OfHeader s st at end levels e
+nest-headed (nested h i) = h
+
+of-header : {s : List ℕ} {st : State} {at end levels : ℕ} {e : Entry} → e .block .place ≡ at → OfHeader s st at end levels e → Headed s e
+of-header {s} {e} place h = record {
+  named = h .named ∙ ap (λ (p : ℕ). blockHeaderAt s p .id) (sym place);
+  whole = λ skipped. h .whole skipped ∙ ap (λ (p : ℕ). blockHeaderAt s p .total) (sym place);
+}
+
+pub each-headed :
+    (s : List ℕ) (room : ℕ) → let es = listed s room .entries in (k : ℕ) (d : Entry) → k < length es → Headed s (getD es k d)
+each-headed s room =
+    by-head (λ (w : Listing State). let es = cut room w .entries in (k : ℕ) (d : Entry) → k < length es → Headed s (getD es k d)) s
+    (cut-each main (length s) (stepAt s) (moves s) Anything
+    (record { leaf = λ low o is h. tt; nest = λ low o is h. tt; out = λ deep low is h. tt }) start fileHeaderSize beyond main (omega arith) (omega arith) tt
+    (λ before e. Headed s e)
+    (record {
+      leaf = λ low o is h. of-header (o .place) (leaf-headed (looked s low is));
+      nest = λ low o is h. of-header (o .owns .place) (nest-headed (looked s low is));
+    }) room)
     (λ a p no k d h. let none = ap (λ (x : Listed). length (x .entries)) (cut-ended room a p start) in absurd (omega (arith, none)))
 
 pub image-first :
@@ -62,8 +94,7 @@ accepted-whole : (s : List ℕ) (room : ℕ) → listed s room .answer ≡ Accep
 accepted-whole s room =
     by-head (λ (w : Listing State). cut room w .answer ≡ Accepted → Whole s (cut room w .entries)) s
     (λ good.
-    let k = run-kept main (length s) (stepAt s) (CameTo s) (moves s) (kept s) start fileHeaderSize beyond main [] (omega arith) (omega arith) fresh in
-    let f = cut-finished main (length s) (stepAt s) (CameTo s) beyond main room [] _ k good in
+    let f = cut-finished main (length s) (stepAt s) (moves s) (CameTo s) (kept s) start fileHeaderSize beyond main (omega arith) (omega arith) fresh room good in
     whole s refl (f .holds) (looked s (omega arith) (f .stops)))
     (λ a p no h. let same = ap (λ (x : Listed). x .answer) (cut-ended room a p start) in absurd (not-accepted no (sym same ∙ h)))
 

@@ -634,16 +634,16 @@ module _ (s : List ℕ) where
   leaf-step :
       {levels at end after : ℕ} {es : List Entry} {st q : State} {e : Entry} → levels ≤ main → CameTo levels at es st
       → Stepped s st at end levels (Leaf e after q) → CameTo levels after (es ++ e ∷ []) q × Right s es e
-  leaf-step low fresh (leafed (an-image i)) =
+  leaf-step low fresh (leafed h (an-image i)) =
       let image : ImageRight s = record { permitted = i .permitted-all; readable = i .readable; inside = i .present } in
       step [] refl (i .entry) (i .state) (image-begins image) (image-right image)
-  leaf-step low fresh (leafed (a-palette i)) = absurd (i .begun refl)
-  leaf-step low fresh (leafed (a-channel i)) = absurd (i .begun refl)
-  leaf-step low fresh (leafed (a-skip i)) = absurd (i .begun refl)
-  leaf-step low (begun u) (leafed (an-image i)) = absurd (not-first u (i .first))
-  leaf-step {es} low (begun u) (leafed (a-palette i)) = step es refl (i .entry) (i .state) (palette-passes low u i) (palette-right low u i)
-  leaf-step {es} low (begun u) (leafed (a-skip i)) = step es refl (i .entry) (i .state) (skip-passes low u i) (skip-right low u i)
-  leaf-step {at} {es} {st} low (begun u) (leafed (a-channel i)) =
+  leaf-step low fresh (leafed h (a-palette i)) = absurd (i .begun refl)
+  leaf-step low fresh (leafed h (a-channel i)) = absurd (i .begun refl)
+  leaf-step low fresh (leafed h (a-skip i)) = absurd (i .begun refl)
+  leaf-step low (begun u) (leafed h (an-image i)) = absurd (not-first u (i .first))
+  leaf-step {es} low (begun u) (leafed h (a-palette i)) = step es refl (i .entry) (i .state) (palette-passes low u i) (palette-right low u i)
+  leaf-step {es} low (begun u) (leafed h (a-skip i)) = step es refl (i .entry) (i .state) (skip-passes low u i) (skip-right low u i)
+  leaf-step {at} {es} {st} low (begun u) (leafed h (a-channel i)) =
       let c = i .chunk in
       let v = subst (λ (l : ℕ). Underway l es st) (i .deepest) u in
       step es (i .deepest)
@@ -654,13 +654,13 @@ module _ (s : List ℕ) where
   nest-step :
       {levels at end inside after : ℕ} {es : List Entry} {st q : State} {e : Entry} → CameTo levels at es st
       → Stepped s st at end levels (Nest e inside q after) → CameTo (levels - 1) inside (es ++ e ∷ []) q × Right s es e
-  nest-step fresh (nested (a-bank i)) = absurd (i .begun refl)
-  nest-step fresh (nested (a-layer i)) = absurd (i .begun refl)
-  nest-step {at} {es} {st} (begun u) (nested (a-bank i)) =
+  nest-step fresh (nested h (a-bank i)) = absurd (i .begun refl)
+  nest-step fresh (nested h (a-layer i)) = absurd (i .begun refl)
+  nest-step {at} {es} {st} (begun u) (nested h (a-bank i)) =
       let v = subst (λ (l : ℕ). Underway l es st) (i .top) u in
       step es (omega (arith, i .top)) (i .entry ∙ ap (λ (l : ℕ). plain (block 3 0 (levelOf l) at blockHeaderSize)) (i .top)) (i .state)
       (bank-entered v at (i .once)) (bank-right v at (i .once))
-  nest-step {at} {es} {st} (begun u) (nested (a-layer i)) =
+  nest-step {at} {es} {st} (begun u) (nested h (a-layer i)) =
       let v = subst (λ (l : ℕ). Underway l es st) (i .in-bank) u in
       let good = subst (λ (d : ℕ). layerFault d (layerFrom s at) ≡ None) (depth-is u) (i .permitted-all) in
       step es (omega (arith, i .in-bank)) (i .entry ∙ (λ j. ranked (block 4 0 (levelOf (i .in-bank j)) at layerHead) (u .known .found j))) (i .state)

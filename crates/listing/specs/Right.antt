@@ -15,7 +15,7 @@ use Rattle.entry.specs.declared.Code.{Code}
 use Rattle.entry.specs.declared.Entry.{Entry}
 use Rattle.entry.specs.Entry.{block, code, content, plain, ranked, filled}
 use Rattle.walk.specs.Parents.{holds, holder, rank, held, Of}
-use Rattle.headers.specs.BlockHeader.{blockHeaderSize}
+use Rattle.headers.specs.BlockHeader.{blockHeaderSize, blockHeaderAt}
 use Rattle.headers.specs.Places.{imagePlace, imageChunkPlace}
 use Rattle.attributes.specs.declared.fault.Fault.the-variants.{None}
 use Rattle.attributes.specs.declared.image_attributes.ImageChunk.{ImageChunk}
@@ -169,6 +169,11 @@ pub record Right (s : List ℕ) (before : List Entry) (e : Entry) : Type 0 where
   pub layer : isLayer e ≡ true → LayerRight s before e
   pub channel : isChannel e ≡ true → ChannelRight s before e
   pub skipped : e .block .skipped ≡ 1 → SkipRight s e
+
+-- and it has the id of the header at its place, and all that this announces where it is skipped
+pub record Headed (s : List ℕ) (e : Entry) : Type 0 where
+  pub named : e .block .id ≡ blockHeaderAt s (e .block .place) .id
+  pub whole : e .block .skipped ≡ 1 → e .content .stored ≡ blockHeaderAt s (e .block .place) .total
 
 -- ### All entries of an accepted file
 

@@ -1,14 +1,15 @@
 -- The answers: each is told by its paper alone, so the contract leaves one outcome for every input.
 use mathlib.Core.Path.{_≡_, refl}
-use mathlib.Core.List.{List}
-use Prim.Native.Nat.{ℕ}
 use lib.Dec.{eqb}
+use denote.Ref.{now}
 use Rattle.laws.specs.Choice.{pick}
+use Rattle.laws.specs.Outcomes.{OneOutcome}
 use Rattle.laws.proofs.OneOutcome.{result-one}
 use Rattle.packer.specs.declared.told.Packed.{Packed}
 use Rattle.packer.specs.declared.PackAnswer.{PackAnswer}
 use Rattle.packer.specs.declared.PackAnswer.the-variants.{Whole, NoRoom, OverLimit}
-use Rattle.packer.specs.Packing.{paper, result, packs}
+use Rattle.packer.specs.Packing.{paper}
+use Rattle.packer.proofs.form.pack.Reads as pack
 
 -- the answer that a paper tells of
 answerOf : Packed → PackAnswer
@@ -20,7 +21,5 @@ answer-back (Whole n) = refl
 answer-back NoRoom = refl
 answer-back OverLimit = refl
 
-pub pack-one :
-    (plane dest : List ℕ) (a b : PackAnswer) (x y : List ℕ)
-    → result a x ≡ packs plane dest → result b y ≡ packs plane dest → (a ≡ b) × (x ≡ y)
-pack-one plane dest = result-one paper answerOf answer-back (packs plane dest)
+pub pack-one : OneOutcome (λ l e. now (e .1 .0)) pack.Learnt
+pack-one l a y z e f = result-one paper answerOf answer-back _ y z _ _

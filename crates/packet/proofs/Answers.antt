@@ -5,14 +5,18 @@ use Prim.Native.Nat.{ℕ, _≤_}
 use borrow.Author.Tests.{le-ltb}
 use lib.Dec.{eqb}
 use lib.ListN.{length}
+use denote.Ref.{now}
 use Rattle.laws.specs.Choice.{pick}
+use Rattle.laws.specs.Outcomes.{OneOutcome}
 use Rattle.packet.specs.Stream.{Outcome, bytes, refused, meaning}
-use Rattle.packet.specs.Reading.{paper, result, verdict, laid, unpacked, planeRead}
+use Rattle.packet.specs.Reading.{paper, result, verdict, laid, unpacked}
 use Rattle.packet.specs.declared.told.Plane.{Plane}
 use Rattle.packet.specs.declared.PlaneAnswer.{PlaneAnswer}
 use Rattle.packet.specs.declared.PlaneAnswer.the-variants.{Whole, NoRoom, Count128, Missing, TooMuch, UnknownCode, RawLength, OverLimit, Outside}
 use Rattle.laws.proofs.Choice.{pick-no}
 use Rattle.laws.proofs.OneOutcome.{result-one}
+use Rattle.packet.proofs.plane.read_plane.Reads as read-plane
+use Rattle.packet.proofs.reader.unpack.Reads as unpack
 
 -- the answer that a paper tells of
 answerOf : Plane → PlaneAnswer
@@ -39,15 +43,11 @@ answer-back RawLength = refl
 answer-back OverLimit = refl
 answer-back Outside = refl
 
-pub unpack-one :
-    (stream : List ℕ) (plane : ℕ) (dest : List ℕ) (a b : PlaneAnswer) (x y : List ℕ)
-    → result a x ≡ unpacked stream plane dest → result b y ≡ unpacked stream plane dest → (a ≡ b) × (x ≡ y)
-unpack-one stream plane dest = result-one paper answerOf answer-back (unpacked stream plane dest)
+pub unpack-one : OneOutcome (λ l e. now (e .1 .0)) unpack.Learnt
+unpack-one l a y z e f = result-one paper answerOf answer-back _ y z _ _
 
-pub read-plane-one :
-    (input : List ℕ) (start stored plane code : ℕ) (dest : List ℕ) (a b : PlaneAnswer) (x y : List ℕ)
-    → result a x ≡ planeRead input start stored plane code dest → result b y ≡ planeRead input start stored plane code dest → (a ≡ b) × (x ≡ y)
-read-plane-one input start stored plane code dest = result-one paper answerOf answer-back (planeRead input start stored plane code dest)
+pub read-plane-one : OneOutcome (λ l e. now (e .1 .1 .1 .1 .1 .0)) read-plane.Learnt
+read-plane-one l a y z e f = result-one paper answerOf answer-back _ y z _ _
 
 -- an answer that is not the whole plane leaves the destination as it was
 left-alone :

@@ -10,7 +10,7 @@ use Rattle.packet.specs.declared.Look.{Look}
 use Rattle.packet.specs.declared.Look.the-variants.{End, Next, Count128, Missing, TooMuch}
 use Rattle.packet.specs.Stream.{sizeOf, countOf, bytesOf, lookOf, Outcome, bytes, refused, join, meant, meaningFrom, meaning}
 use Rattle.packet.specs.Reading.{verdict, laid}
-use Rattle.packet.proofs.Stream.{Sound, ended, count-128, missing, too-much, next, sound, onward, meaning-stop, join-join, join-nothing}
+use Rattle.packet.proofs.Stream.{Shown, ended, count-128, missing, too-much, next, shown, onward, meaning-stop, join-join, join-nothing}
 use Rattle.laws.proofs.Written.{Written, written-first, written-more, written-front, written-all}
 
 verdict-join : (stored plane : ℕ) (xs : List ℕ) (o : Outcome) → verdict stored plane (join xs o) ≡ verdict stored plane o
@@ -96,13 +96,13 @@ module _ (s : List ℕ) (stored plane at left : ℕ) (xs : List ℕ) (good : ver
       omega arith
 
   finished :
-      {k : Look} → Sound s left k → lookOf s left ≡ k → ((p : Packet) → k ≡ Next p → ⊥)
+      {k : Look} → Shown s left k → lookOf s left ≡ k → ((p : Packet) → k ≡ Next p → ⊥)
       → (left ≡ 0) × (meaningFrom s at left ≡ bytes [])
-  finished (ended full) e none = (full, meaning-stop s at left End (bytes []) e (λ more. refl))
+  finished (ended nil full) e none = (full, meaning-stop s at left End (bytes []) e (λ more. refl))
   finished count-128 e none = absurd (accepted 20 (meaning-stop s at left Count128 (refused 21 at) e (λ more. refl)))
   finished missing e none = absurd (accepted 21 (meaning-stop s at left Missing (refused 22 at) e (λ more. refl)))
   finished too-much e none = absurd (accepted 22 (meaning-stop s at left TooMuch (refused 23 at) e (λ more. refl)))
-  finished (next {p} i) e none = absurd (none p refl)
+  finished (next {q} st) e none = absurd (none q refl)
 
 -- then dest holds the plane, and behind it what it held before
 pub laying-last :
@@ -111,7 +111,7 @@ pub laying-last :
     → verdict (length s) plane (meaning s plane) .number ≡ 0 → dest ≡ laid plane before (meaning s plane)
 laying-last s plane before at done dest l none good =
     let end = finished (drop at s) (length s) plane at (plane - done) (take done dest) (ap (λ (o : Outcome). verdict (length s) plane o .number) (sym (l .means)) ∙ good)
-    (sound (drop at s) (plane - done)) refl none in
+    (shown (drop at s) (plane - done)) refl none in
     let full : done ≡ plane = omega (arith, end .0, l .room) in
     let means : meaning s plane ≡ bytes (take done dest ++ []) = l .means ∙ ap (join (take done dest)) (end .1) in
     written-all before done dest (l .written)

@@ -1,11 +1,11 @@
 -- What a stream means, packet by packet.
-use mathlib.Core.Path.{_≡_, refl, sym, ap, _∙_, subst}
+use mathlib.Core.Path.{_≡_, refl, sym, ap, _∙_, subst, subst⁻¹}
 use mathlib.Core.List.{List, [], _∷_, _++_, append-assoc}
 use Prim.Native.Nat.{ℕ, zero, suc, _+_, _-_, _<_, _≤_}
 use native.Mathlib.Nat.{add-zero}
 use native.Mathlib.Numerals.{add-one}
 use native.Mathlib.Omega.{arith}
-use borrow.Author.Tests.{ltb-false, eqb-true, lt-ltb, le-ltb, eq-eqb, ne-eqb}
+use borrow.Author.Tests.{ltb-false, eqb-true, eqb-false, lt-ltb, le-ltb, eq-eqb, ne-eqb}
 use lib.Dec.{eqb}
 use lib.ListN.{length, drop, getD, length-drop, length-replicate, drop-of-length-le}
 use lib.Seq.{drop-cons, drop-drop, getD-drop, length-take-le}
@@ -17,41 +17,64 @@ use Rattle.laws.specs.Choice.{pick}
 use Rattle.packet.specs.Stream.{packetOf, dataOf, sizeOf, countOf, bytesOf, fitted, lookOf, Outcome, bytes, refused, join, meant, meaningWith, meaningFrom}
 use Rattle.laws.proofs.Choice.{pick-yes, pick-no, pick-ind}
 
--- a packet lies inside its stream, gives what it says, and no more than the plane has left
+-- what stands at the front of a stream where a look finds a packet
+pub record Stood (stream : List ℕ) (left : ℕ) (q : Packet) : Type 0 where
+  pub count : ℕ
+  pub rest : List ℕ
+  pub is : stream ≡ count ∷ rest
+  pub unfull : left ≡ 0 → ⊥
+  pub no-128 : count ≡ 128 → ⊥
+  pub packet : packetOf count rest ≡ q
+  pub there : dataOf q ≤ length rest
+  pub room : countOf q ≤ left
+
+-- what a look shows: an end, or a packet
+pub data Shown (stream : List ℕ) (left : ℕ) : Look → Type 0 where
+  ended : stream ≡ [] → left ≡ 0 → Shown stream left End
+  count-128 : Shown stream left Count128
+  missing : Shown stream left Missing
+  too-much : Shown stream left TooMuch
+  next : {q : Packet} → Stood stream left q → Shown stream left (Next q)
+
+pub shown : (stream : List ℕ) (left : ℕ) → Shown stream left (lookOf stream left)
+unfolding lookOf fitted
+shown [] left = pick-ind (Shown [] left) _ _ _ (λ full. ended refl (eqb-true left 0 full)) (λ _. missing)
+shown (count ∷ rest) left =
+    let S = Shown (count ∷ rest) left in
+    pick-ind S _ _ _ (λ _. too-much) (λ unfull.
+    pick-ind S _ _ _ (λ _. count-128) (λ no-128.
+    pick-ind S _ _ _ (λ _. missing) (λ there.
+    pick-ind S _ _ _ (λ _. too-much) (λ fits. next (record {
+      count = count;
+      rest = rest;
+      is = refl;
+      unfull = eqb-false left 0 unfull;
+      no-128 = eqb-false count 128 no-128;
+      packet = refl;
+      there = ltb-false _ _ there;
+      room = ltb-false _ _ fits;
+    })))))
+
+-- a packet that is found lies inside its stream, gives what it says, and no more than the plane has left
 pub record Inside (stream : List ℕ) (left : ℕ) (p : Packet) : Type 0 where
   pub present : sizeOf p ≤ length stream
   pub room : countOf p ≤ left
   pub gives : length (bytesOf p stream) ≡ countOf p
 
-pub data Sound (stream : List ℕ) (left : ℕ) : Look → Type 0 where
-  ended : left ≡ 0 → Sound stream left End
-  count-128 : Sound stream left Count128
-  missing : Sound stream left Missing
-  too-much : Sound stream left TooMuch
-  next : {p : Packet} → Inside stream left p → Sound stream left (Next p)
-
 gives-count : (count : ℕ) (rest : List ℕ) (p : Packet) → dataOf p ≤ length rest → length (bytesOf p (count ∷ rest)) ≡ countOf p
 gives-count count rest (Literals n) h = length-take-le n rest h
 gives-count count rest (Run n b) h = length-replicate n b
 
-pub sound : (stream : List ℕ) (left : ℕ) → Sound stream left (lookOf stream left)
-unfolding lookOf fitted
-sound [] left = pick-ind (Sound [] left) _ _ _ (λ full. ended (eqb-true left 0 full)) (λ _. missing)
-sound (count ∷ rest) left =
-    let S = Sound (count ∷ rest) left in
-    let p = packetOf count rest in
-    pick-ind S _ _ _ (λ _. too-much) (λ _.
-    pick-ind S _ _ _ (λ _. count-128) (λ _.
-    pick-ind S _ _ _ (λ _. missing) (λ there.
-    pick-ind S _ _ _ (λ _. too-much) (λ fits. next (record {
-      present = omega (arith, ltb-false (length rest) (dataOf p) there);
-      room = ltb-false _ _ fits;
-      gives = gives-count count rest p (ltb-false _ _ there);
-    })))))
+pub inside-of : {stream : List ℕ} {left : ℕ} {p : Packet} → Stood stream left p → Inside stream left p
+inside-of {stream} {p} st = record {
+  present = omega (arith, ap length (st .is), st .there);
+  room = st .room;
+  gives = subst⁻¹ (λ (l : List ℕ). length (bytesOf p l) ≡ countOf p) (st .is) (gives-count (st .count) (st .rest) p (st .there));
+}
 
 -- what a look at a packet shows
-inside : {stream : List ℕ} {left : ℕ} {p : Packet} → Sound stream left (Next p) → Inside stream left p
-inside (next i) = i
+inside : {stream : List ℕ} {left : ℕ} {p : Packet} → Shown stream left (Next p) → Inside stream left p
+inside (next st) = inside-of st
 
 pub fitted-missing : (rest left : ℕ) (p : Packet) → rest < dataOf p → fitted rest left p ≡ Missing
 unfolding fitted
@@ -64,6 +87,17 @@ fitted-too-much rest left p h k = pick-no _ _ _ (le-ltb rest (dataOf p) h) ∙ p
 pub fitted-next : (rest left : ℕ) (p : Packet) → dataOf p ≤ rest → countOf p ≤ left → fitted rest left p ≡ Next p
 unfolding fitted
 fitted-next rest left p h k = pick-no _ _ _ (le-ltb rest (dataOf p) h) ∙ pick-no _ _ _ (le-ltb left (countOf p) k)
+
+-- a packet with a count byte that is not 128, and whose data is there, is found at the front of a stream
+pub look-next :
+    (count : ℕ) (rest : List ℕ) (left : ℕ) (q : Packet) → (left ≡ 0 → ⊥) → (count ≡ 128 → ⊥) → packetOf count rest ≡ q
+    → dataOf q ≤ length rest → countOf q ≤ left → lookOf (count ∷ rest) left ≡ Next q
+unfolding lookOf
+look-next count rest left q unfull no-128 e there room =
+    pick-no _ _ _ (ne-eqb left 0 unfull)
+    ∙ pick-no _ _ _ (ne-eqb count 128 no-128)
+    ∙ ap (fitted (length rest) left) e
+    ∙ fitted-next (length rest) left q there room
 
 -- the look at a place of a stream s: at its end, and inside
 module _ (s : List ℕ) (at left : ℕ) where
@@ -112,12 +146,12 @@ module _ (s : List ℕ) (at left : ℕ) where
 -- two meanings of what follows that agree where a packet stands
 meant-same :
     (F G : Packet → Outcome) (stream : List ℕ) (at left : ℕ) → ((p : Packet) → Inside stream left p → F p ≡ G p)
-    → {k : Look} → Sound stream left k → meant F stream at k ≡ meant G stream at k
-meant-same F G stream at left same (ended full) = refl
+    → {k : Look} → Shown stream left k → meant F stream at k ≡ meant G stream at k
+meant-same F G stream at left same (ended nil full) = refl
 meant-same F G stream at left same count-128 = refl
 meant-same F G stream at left same missing = refl
 meant-same F G stream at left same too-much = refl
-meant-same F G stream at left same (next {p} i) = ap (join (bytesOf p stream)) (same p i)
+meant-same F G stream at left same (next {q} st) = ap (join (bytesOf q stream)) (same q (inside-of st))
 
 -- any fuel above the stream's length gives one meaning
 steady : (f g : ℕ) (stream : List ℕ) (at left : ℕ) → length stream < f → length stream < g → meaningWith f stream at left ≡ meaningWith g stream at left
@@ -128,7 +162,7 @@ steady (suc f) (suc g) stream at left hf hg =
     meant-same _ _ stream at left
     (λ p i. steady f g (drop (sizeOf p) stream) (at + sizeOf p) (left - countOf p)
     (simp length-drop (omega (arith, i .present))) (simp length-drop (omega (arith, i .present))))
-    (sound stream left)
+    (shown stream left)
 
 -- a packet, and what follows it
 pub meaning-next :
@@ -136,7 +170,7 @@ pub meaning-next :
     → meaningFrom stream at left ≡ join (bytesOf p stream) (meaningFrom (drop (sizeOf p) stream) (at + sizeOf p) (left - countOf p))
 unfolding meaningWith
 meaning-next stream at left p e =
-    let i = inside (subst (Sound stream left) e (sound stream left)) in
+    let i = inside (subst (Shown stream left) e (shown stream left)) in
     ap (meant (λ q. meaningWith (length stream) (drop (sizeOf q) stream) (at + sizeOf q) (left - countOf q)) stream at) e
     ∙ ap (join (bytesOf p stream)) (steady (length stream) (suc (length (drop (sizeOf p) stream))) (drop (sizeOf p) stream) (at + sizeOf p) (left - countOf p)
     (simp length-drop (omega (arith, i .present))) (omega arith))
@@ -163,7 +197,7 @@ pub record Onward (s : List ℕ) (at left : ℕ) (p : Packet) : Type 0 where
 
 pub onward : (s : List ℕ) (at left : ℕ) (p : Packet) → at ≤ length s → lookOf (drop at s) left ≡ Next p → Onward s at left p
 onward s at left p h e =
-    let i = inside (subst (Sound (drop at s) left) e (sound (drop at s) left)) in
+    let i = inside (subst (Shown (drop at s) left) e (shown (drop at s) left)) in
     record {
       fits = omega (arith, length-drop at s, i .present);
       room = i .room;

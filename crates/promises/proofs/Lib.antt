@@ -1,2 +1,4 @@
--- The demands as theorems.
-pub mod Kept
+-- The demands, shown.
+pub mod EveryInput
+pub mod TableAndPlanes
+pub mod MoreInput

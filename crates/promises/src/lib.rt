@@ -1,2 +1,2 @@
-// Demand 3, that more input never takes anything back, speaks of the listing and of the plane reader together, and neither crate knows the
-// other: see proofs/. There is no function here.
+// The demands (specs/, proofs/) speak of the listing, of the plane reader, of the packer and of the canvas together, and these crates do not
+// know each other. There is no function here.

@@ -5,3 +5,4 @@ mod planes;
 mod recorded;
 mod shown;
 mod tabled;
+mod version;

@@ -6,6 +6,9 @@ use answer::Told;
 use entry::Entry;
 use libc::STDOUT_FILENO;
 use printing::text;
+ghost use mathlib.Core.Path.{_≡_};
+ghost use Rattle.listing.specs.Listing.{result};
+ghost use Rattle.psplist.specs.Program.{programLists};
 
 // Bytes of the program's input, and the numbers of a table with room for its 512 entries.
 pub const INPUT: usize = 65536;
@@ -13,7 +16,9 @@ pub const INPUT: usize = 65536;
 const TABLE: usize = 512 * Entry::SIZE;
 
 // The listing, under the program's own limit.
-fn list(input: &[u8], table: &mut [u32]) -> Outcome {
+pub fn list(input: &[u8], table: &mut [u32]) -> Outcome
+    ensures { λ r. ⌜ result r (now (table .exit)) ≡ programLists (now (input .entry)) (now (table .entry)) ⌝ }
+{
     if INPUT < input.len() {
         return Outcome {
             answer: Answer::OverLimit,

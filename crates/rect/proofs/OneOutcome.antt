@@ -1,55 +1,59 @@
--- Any two outcomes that a contract admits are equal. A leaf that also says a range is fixed by its value.
-use mathlib.Core.Path.{_≡_}
-use mathlib.Core.Bool.{Bool}
-use mathlib.Core.List.{List}
-use Prim.Native.Nat.{ℕ}
-use lib.IntN.{ℤ}
+-- Any two results that a contract admits are equal. A leaf that also says a range is fixed by its value.
+use Rattle.laws.specs.Outcomes.{OneResult}
 use Rattle.laws.proofs.OneOutcome.{one}
-use Rattle.rect.specs.declared.Rect.{Rect}
-use Rattle.rect.specs.Rect.{rectAt, isProper, isEmpty, isInside, isWithin, isSaved, sideOf, widthOf, heightOf}
-use Rattle.rect.specs.declared.planes.Sides.{Sides}
-use Rattle.rect.specs.declared.planes.Size.{Size}
-use Rattle.rect.specs.Rows.{rowOf, planeOf, sidesOf, sizeOf}
-use Rattle.rect.specs.Shared.{sharedOf}
+use Rattle.rect.proofs.Rect.decode.Reads as decode
+use Rattle.rect.proofs.intersection.intersect.Reads as intersect
+use Rattle.rect.proofs.planes.row_bytes.Reads as row-bytes
+use Rattle.rect.proofs.planes.plane_length.Reads as plane-length
+use Rattle.rect.proofs.planes.Sides.of.Reads as sides
+use Rattle.rect.proofs.planes.Sides.size.Reads as size
+use Rattle.rect.proofs.rules.proper.Reads as proper
+use Rattle.rect.proofs.rules.empty.Reads as empty
+use Rattle.rect.proofs.rules.inside.Reads as inside
+use Rattle.rect.proofs.rules.within.Reads as within
+use Rattle.rect.proofs.rules.saved.Reads as saved
+use Rattle.rect.proofs.sides.side.Reads as side
+use Rattle.rect.proofs.sides.width.Reads as width
+use Rattle.rect.proofs.sides.height.Reads as height
 
-pub decode-one : (s : List ℕ) (at : ℕ) (a b : Rect) → a ≡ rectAt s at → b ≡ rectAt s at → a ≡ b
-decode-one s at a b = one
+pub decode-one : OneResult decode.Learnt
+decode-one l a y z e f = one
 
-pub proper-one : (r : Rect) (a b : Bool) → a ≡ isProper r → b ≡ isProper r → a ≡ b
-proper-one r a b = one
+pub proper-one : OneResult proper.Learnt
+proper-one l a y z e f = one
 
-pub empty-one : (r : Rect) (a b : Bool) → a ≡ isEmpty r → b ≡ isEmpty r → a ≡ b
-empty-one r a b = one
+pub empty-one : OneResult empty.Learnt
+empty-one l a y z e f = one
 
-pub inside-one : (r border : Rect) (a b : Bool) → a ≡ isInside r border → b ≡ isInside r border → a ≡ b
-inside-one r border a b = one
+pub inside-one : OneResult inside.Learnt
+inside-one l a y z e f = one
 
-pub within-one : (r : Rect) (a b : Bool) → a ≡ isWithin r → b ≡ isWithin r → a ≡ b
-within-one r a b = one
+pub within-one : OneResult within.Learnt
+within-one l a y z e f = one
 
-pub saved-one : (r border : Rect) (a b : Bool) → a ≡ isSaved r border → b ≡ isSaved r border → a ≡ b
-saved-one r border a b = one
+pub saved-one : OneResult saved.Learnt
+saved-one l a y z e f = one
 
-pub side-one : (from to : ℤ) (a b : ℕ) → a ≡ sideOf from to → b ≡ sideOf from to → a ≡ b
-side-one from to a b = one
+pub side-one : OneResult side.Learnt
+side-one l a y z e f p q = one (p .0) (q .0)
 
-pub width-one : (r : Rect) (a b : ℕ) → a ≡ widthOf r → b ≡ widthOf r → a ≡ b
-width-one r a b = one
+pub width-one : OneResult width.Learnt
+width-one l a y z e f p q = one (p .0) (q .0)
 
-pub height-one : (r : Rect) (a b : ℕ) → a ≡ heightOf r → b ≡ heightOf r → a ≡ b
-height-one r a b = one
+pub height-one : OneResult height.Learnt
+height-one l a y z e f p q = one (p .0) (q .0)
 
-pub row-bytes-one : (w bits : ℕ) (a b : ℕ) → a ≡ rowOf w bits → b ≡ rowOf w bits → a ≡ b
-row-bytes-one w bits a b = one
+pub row-bytes-one : OneResult row-bytes.Learnt
+row-bytes-one l a y z e f = one
 
-pub plane-length-one : (r : Rect) (bits : ℕ) (a b : ℕ) → a ≡ planeOf r bits → b ≡ planeOf r bits → a ≡ b
-plane-length-one r bits a b = one
+pub plane-length-one : OneResult plane-length.Learnt
+plane-length-one l a y z e f p q = one (p .0) (q .0)
 
-pub intersect-one : (r s : Rect) (a b : Rect) → a ≡ sharedOf r s → b ≡ sharedOf r s → a ≡ b
-intersect-one r s a b = one
+pub intersect-one : OneResult intersect.Learnt
+intersect-one l a y z e f = one
 
-pub sides-one : (r : Rect) (a b : Sides) → a ≡ sidesOf r → b ≡ sidesOf r → a ≡ b
-sides-one r a b = one
+pub sides-one : OneResult sides.Learnt
+sides-one l a y z e f = one
 
-pub size-one : (s : Sides) (bits : ℕ) (a b : Size) → a ≡ sizeOf s bits → b ≡ sizeOf s bits → a ≡ b
-size-one s bits a b = one
+pub size-one : OneResult size.Learnt
+size-one l a y z e f = one

@@ -6,18 +6,17 @@ use native.Mathlib.Omega.{arith}
 use borrow.Author.Tests.{eqb-true, eq-eqb, ne-eqb}
 use lib.Dec.{eqb}
 use lib.ListN.{length}
+use denote.Ref.{now}
 use Rattle.laws.specs.Choice.{pick}
 use Rattle.laws.specs.Lists.{part}
+use Rattle.laws.specs.Outcomes.{OneResult, OneFixed}
 use Rattle.laws.proofs.Choice.{pick-yes, pick-no, pick-ind}
 use Rattle.laws.proofs.OneOutcome.{one}
 use Rattle.laws.proofs.Part.{part-length}
 use Rattle.headers.specs.Places.{imageChunkPlace}
 use Rattle.attributes.specs.ImageAttributes.{imageAt}
-use Rattle.view.specs.declared.facts.ImageFacts.{ImageFacts}
-use Rattle.view.specs.declared.facts.LayerFacts.{LayerFacts}
 use Rattle.view.specs.declared.part.Part.{Part}
 use Rattle.view.specs.Asked.{paletteAsked, isThere, layerPlace}
-use Rattle.view.specs.Facts.{imageFacts, layerFacts}
 use Rattle.view.specs.Name.{beforeZero, nameView, NameShown}
 use Rattle.view.specs.Palette.{paletteView, Shows, PaletteShown}
 use Rattle.view.specs.Shown.{refusal, Slice, PartOf}
@@ -25,6 +24,12 @@ use Rattle.view.proofs.Accepted.{palette-has, layer-has}
 use Rattle.view.proofs.Asked.{accepted-ind, layer-ind}
 use Rattle.view.proofs.Place.{Same, taken, part-of, part-one}
 use Rattle.view.proofs.Zero.{name-field, zero-most}
+use Rattle.view.proofs.facts.image_facts.Reads as image-facts
+use Rattle.view.proofs.facts.layer_facts.Reads as layer-facts
+use Rattle.view.proofs.layer_name.name.Reads as name
+use Rattle.view.proofs.layer_name.name_part.Reads as name-part
+use Rattle.view.proofs.palette_view.palette.Reads as palette
+use Rattle.view.proofs.palette_view.palette_part.Reads as palette-part
 
 -- ### A part lies in its slice
 
@@ -61,6 +66,15 @@ name-lies s room k =
     (λ _. omega arith)
     (λ _. omega arith)
 
+-- ### What is fixed of a slice that is shown
+
+-- the number beside it, its place and its bytes; the name of its borrow is left open
+abbrev pub seen : ℕ → Slice → ℕ × ((ℕ × ℕ) × List ℕ)
+seen number r = (number, (r .ptr, r .now))
+
+seen-one : {number number' : ℕ} (r r' : Slice) → number ≡ number' → Same r r' → seen number r ≡ seen number' r'
+seen-one r r' n same = λ i. (n i, (same .0 i, same .1 i))
+
 -- ### The palette
 
 module _ (input ramp : Slice) (room : ℕ) (p : Part) (is : p ≡ paletteView (input .now) room (length (ramp .now))) where
@@ -86,13 +100,11 @@ pub same-ramp :
     {input near ramp r : Slice} {room number : ℕ} → near ≡ ramp → PaletteShown input room near number r → PaletteShown input room ramp number r
 same-ramp {input} {r} {room} {number} e v = subst (λ (x : Slice). PaletteShown input room x number r) e v
 
-pub palette-one :
-    (input : Slice) (room : ℕ) (ramp : Slice) (number number' : ℕ) (r r' : Slice)
-    → PaletteShown input room ramp number r → PaletteShown input room ramp number' r' → (number ≡ number') × Same r r'
-palette-one input room ramp number number' r r' p q = (one (p .told) (q .told), part-one _ _ _ r r' (p .is) (q .is))
+pub palette-one : OneFixed (λ l r e. seen (now (e .1 .1 .1 .0)) r) palette.Learnt
+palette-one l a y z e f p q = seen-one y z (one (p .told) (q .told)) (part-one _ _ _ y z (p .is) (q .is))
 
-pub palette-part-one : (s : List ℕ) (room ramp : ℕ) (p q : Part) → p ≡ paletteView s room ramp → q ≡ paletteView s room ramp → p ≡ q
-palette-part-one s room ramp p q = one
+pub palette-part-one : OneResult palette-part.Learnt
+palette-part-one l a y z e f = one
 
 -- ### A name
 
@@ -106,19 +118,16 @@ module _ (input : Slice) (room k : ℕ) (p : Part) (is : p ≡ nameView (input .
 pub name-inside : (s : List ℕ) (room k : ℕ) (p : Part) → p ≡ nameView s room k → p .start + p .length ≤ length s
 name-inside s room k p is = subst⁻¹ (λ (x : Part). x .start + x .length ≤ length s) is (name-lies s room k)
 
-pub name-one :
-    (input : Slice) (room k number number' : ℕ) (r r' : Slice)
-    → NameShown input room k number r → NameShown input room k number' r' → (number ≡ number') × Same r r'
-name-one input room k number number' r r' p q =
-    (one (p .told) (q .told), part-one input _ _ r r' (p .is) (q .is))
+pub name-one : OneFixed (λ l r e. seen (now (e .1 .1 .1 .0)) r) name.Learnt
+name-one l a y z e f p q = seen-one y z (one (p .told) (q .told)) (part-one _ _ _ y z (p .is) (q .is))
 
-pub name-part-one : (s : List ℕ) (room k : ℕ) (p q : Part) → p ≡ nameView s room k → q ≡ nameView s room k → p ≡ q
-name-part-one s room k p q = one
+pub name-part-one : OneResult name-part.Learnt
+name-part-one l a y z e f = one
 
 -- ### Facts
 
-pub image-facts-one : (s : List ℕ) (room : ℕ) (a b : ImageFacts) → a ≡ imageFacts s room → b ≡ imageFacts s room → a ≡ b
-image-facts-one s room a b = one
+pub image-facts-one : OneResult image-facts.Learnt
+image-facts-one l a y z e f = one
 
-pub layer-facts-one : (s : List ℕ) (room k : ℕ) (a b : LayerFacts) → a ≡ layerFacts s room k → b ≡ layerFacts s room k → a ≡ b
-layer-facts-one s room k a b = one
+pub layer-facts-one : OneResult layer-facts.Learnt
+layer-facts-one l a y z e f = one

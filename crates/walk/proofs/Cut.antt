@@ -5,7 +5,7 @@ use mathlib.Core.List.{List, [], _∷_, _++_, append-nil}
 use Prim.Native.Nat.{ℕ, zero, suc, _≤_}
 use native.Mathlib.Omega.{arith}
 use lib.ListN.{length, take, drop, length-take, length-drop, take-append-drop, drop-of-length-le}
-use lib.Seq.{take-all, take-nil, drop-nil}
+use lib.Seq.{take-all, take-nil, drop-nil, take-at, drop-at}
 use Rattle.answer.specs.declared.Answer.{Answer}
 use Rattle.answer.specs.declared.Answer.the-variants.{Accepted, TableFull}
 use Rattle.answer.proofs.Names.{not-accepted}
@@ -97,13 +97,14 @@ module _ {S : Type 0} where
   -- a listing that is cut is the whole listing, or full
   pub cut-case :
       (P : Listed → Type 0) (room : ℕ) (w : Listing S)
-      → P (plain (w .answer) (w .place) (w .entries)) → ((r : Listed) → r .answer ≡ TableFull → Full (w .entries) room r → P r) → P (cut room w)
+      → (length (w .entries) ≤ room → P (plain (w .answer) (w .place) (w .entries))) → ((r : Listed) → r .answer ≡ TableFull → Full (w .entries) room r → P r) → P (cut room w)
   unfolding cut
   cut-case P room w all full =
       let es = w .entries in
       let split : es ≡ take room es ++ drop room es = sym (take-append-drop room es) in
       closed-case P (w .answer) (w .place) (take room es) (drop room es)
-      (λ z. subst (λ (l : List Entry). P (plain (w .answer) (w .place) l)) (split ∙ ap (λ (l : List Entry). take room es ++ l) z ∙ append-nil (take room es)) all)
+      (λ z. subst (λ (l : List Entry). P (plain (w .answer) (w .place) l)) (split ∙ ap (λ (l : List Entry). take room es ++ l) z ∙ append-nil (take room es))
+      (all (omega (arith, sym (length-drop room es) ∙ ap length z))))
       (λ e more z. full _ refl (record {
         first = e;
         more = more;
@@ -115,7 +116,7 @@ module _ {S : Type 0} where
   pub cut-table-full :
       (room : ℕ) (w : Listing S) → (w .answer ≡ TableFull → ⊥) → cut room w .answer ≡ TableFull → Full (w .entries) room (cut room w)
   cut-table-full room w own =
-      cut-case (λ (r : Listed). r .answer ≡ TableFull → Full (w .entries) room r) room w (λ z. absurd (own z)) (λ r _ f _. f)
+      cut-case (λ (r : Listed). r .answer ≡ TableFull → Full (w .entries) room r) room w (λ _ z. absurd (own z)) (λ r _ f _. f)
 
   -- ### With a larger room
 
@@ -124,6 +125,12 @@ module _ {S : Type 0} where
       let fits = cut-had-room room w h in cut-fits room w fits ∙ sym (cut-fits more w (omega arith))
 
   -- ### With more behind it
+
+  -- where one entry more has no room, it is full there
+  pub cut-seam : (room : ℕ) (es : List Entry) (e : Entry) (w : Listing S) → length es ≡ room → cut room (es ⧺ (e ◂ w)) ≡ plain TableFull (e .block .place) es
+  unfolding cut closed
+  cut-seam room es e w count =
+      ap₂ (closed (w .answer) (w .place)) (take-at es (e ∷ w .entries) room count) (drop-at es (e ∷ w .entries) room count)
 
   pub cut-over : (room : ℕ) (w more : Listing S) → (cut room w .answer ≡ w .answer → ⊥) → cut room (w .entries ⧺ more) ≡ cut room w
   unfolding cut closed

@@ -1,124 +1,109 @@
--- From one step to the whole walk: what each step keeps holds of every beginning of the listing, where it stopped, and where it ended;
--- and of the listing cut to a room.
-use mathlib.Core.Path.{_≡_, refl, sym, ap, subst, _∙_}
-use mathlib.Core.List.{List, [], _∷_, _++_, append-nil}
-use Prim.Native.Nat.{ℕ, zero, suc, _-_, _≤_, _<_}
+-- From one step to the whole walk: what each step keeps holds wherever a course stands; what the entry of each step has of those before it,
+-- each listed entry has.
+use mathlib.Core.Path.{_≡_, refl, sym, ap, subst, subst₂, _∙_}
+use mathlib.Core.List.{List, [], _∷_, _++_}
+use Prim.Native.Nat.{ℕ, _-_, _≤_, _<_}
 use native.Mathlib.Omega.{arith}
-use lib.ListN.{take}
-use lib.Seq.{take-nil, append-snoc}
+use lib.ListN.{length, take, getD}
+use Rattle.laws.specs.Along.{Along, along-end}
+use Rattle.laws.proofs.Along.{along-more, along-take, along-at}
 use Rattle.answer.specs.declared.Answer.{Answer}
-use Rattle.answer.specs.declared.Answer.the-variants.{Accepted, Refused, TableFull}
+use Rattle.answer.specs.declared.Answer.the-variants.{Accepted}
 use Rattle.answer.proofs.Names.{not-accepted}
 use Rattle.entry.specs.declared.Entry.{Entry}
-use Rattle.walk.specs.Walk.{Step, End, Look, Listing, Rest, Go, ended, done, _◂_, follow, walk, run, enough}
+use Rattle.walk.specs.Walk.{Step, End, Look, run}
 use Rattle.walk.specs.Room.{Listed, cut}
-use Rattle.walk.specs.Owed.{Ends, Moves, ends, stops, leaf, nest, MovesOn}
-use Rattle.walk.specs.Invariant.{Family, Invariant, Reached, at-end, by-rule, Stopped, Finished, Kept}
-use Rattle.walk.proofs.Cut.{cut-entries, cut-fits, cut-had-room, cut-whole}
+use Rattle.walk.specs.Owed.{Ends, Moves, MovesOn}
+use Rattle.walk.specs.Course as course
+use Rattle.walk.specs.Course.{Stand, stand, seen, Course, Says, at-end, by-rule}
+use Rattle.walk.specs.Invariant.{Family, Invariant, Each}
+use Rattle.walk.proofs.Cut.{plain, cut-entries, cut-whole}
+use Rattle.walk.proofs.Course.{outermost, ends-of, owns-of, opens-of, Fits, fits, owed, run-led}
 
-module _ {S : Type 0} (main len : ℕ) (look : Look S) (P : Family S) where
-  -- ### A listing, by its first entry
+-- a look that has the walk accept is that at an end
+said-end : {S : Type 0} {at p : ℕ} {a : Answer} {k : Step S} → Says at a p k → a ≡ Accepted → (at ≡ p) × (k ≡ End)
+said-end at-end z = (refl, refl)
+said-end by-rule z = absurd (not-accepted refl z)
 
-  module _ (top end : ℕ) where
-    -- nothing is listed
-    nothing :
-        (es : List Entry) (a : Answer) (p : ℕ) (st : S) → Stopped main len look P a p es
-        → (a ≡ Accepted → Finished main len look P end top p st es) → Kept main len look P end top es (ended a p st)
-    nothing es a p st s f = record {
-      reached = λ k.
-          subst (Reached main len look P) (sym (ap (λ (l : List Entry). es ++ l) (take-nil k) ∙ append-nil es))
-          (record { levels = s .levels; at = s .at; state = s .state; low = s .low; holds = s .holds });
-      stopped = subst (Stopped main len look P a p) (sym (append-nil es)) s;
-      finished = λ z. subst (Finished main len look P end top p st) (sym (append-nil es)) (f z);
-    }
+module _ {S : Type 0} (main len : ℕ) (look : Look S) (moves : MovesOn main len look) (P : Family S) (inv : Invariant main len look P) where
+  module _ (st : S) (at end levels : ℕ) (order : at ≤ end) (low : levels ≤ main) (begins : P levels at [] st) where
+    abbrev On : List Entry → Stand S → Type 0
+    On = Course look levels (stand at end [] st)
 
-    one-more :
-        (es : List Entry) (e : Entry) (w : Listing S) → Reached main len look P es
-        → Kept main len look P end top (es ++ e ∷ []) w → Kept main len look P end top es (e ◂ w)
-    one-more es e w here k = record {
-      reached = λ n. beginning n;
-      stopped = subst (Stopped main len look P (w .answer) (w .place)) (append-snoc es e (w .entries)) (k .stopped);
-      finished = λ z. subst (Finished main len look P end top (w .place) (w .state)) (append-snoc es e (w .entries)) (k .finished z);
-    }
-      where
-        beginning : (n : ℕ) → Reached main len look P (es ++ take n (e ∷ w .entries))
-        beginning zero = subst (Reached main len look P) (sym (append-nil es)) here
-        beginning (suc n) = subst (Reached main len look P) (append-snoc es e (take n (w .entries))) (k .reached n)
+    -- the levels left inside the blocks around a place
+    abbrev left : List ℕ → ℕ
+    left bs = levels - length bs
 
-    -- ### A walk
+    stands : {es : List Entry} {x : Stand S} → On es x → Fits main len look moves levels low st at end order x
+    stands = fits main len look moves levels low st at end order
 
-    -- what follows the parent's end keeps it too
-    abbrev After : ℕ → ℕ → Rest S → Type 0
-    After b l rest =
-        (p : ℕ) (x : S) (xs : List Entry) → Ends len main p b l → p ≤ b → look x p b l ≡ End → P l p xs x
-        → Kept main len look P end top xs (rest p x)
+    owes : {es : List Entry} {x : Stand S} {k : Step S} → On es x → seen look levels x ≡ k → Moves len main (x .at) (x .end) (left (x .around)) k
+    owes c is = owed main len look moves levels low st at end order (stands c) is
 
-    module _ (inv : Invariant main len look P) where
-      follow-kept :
-          (go : Go S) (st : S) (at b l : ℕ) (rest : Rest S) (es : List Entry)
-          → ((q : S) (a' b' l' : ℕ) (r : Rest S) (xs : List Entry) → at < a' → at < len → a' ≤ b' → l' ≤ main → P l' a' xs q → After b' l' r
-          → Kept main len look P end top xs (go q a' b' l' r))
-          → at ≤ b → l ≤ main → P l at es st → After b l rest
-          → {k : Step S} → look st at b l ≡ k → Moves len main at b l k → Kept main len look P end top es (follow go st at b l rest k)
-      unfolding follow
-      follow-kept go st at b l rest es ih order low here after is (ends m) = after at st es m order is here
-      follow-kept go st at b l rest es ih order low here after is (stops {r} {p} m) =
-          nothing es (Refused r) p st
-          (record { levels = l; at = at; end = b; state = st; low = low; order = order; holds = here; says = rw is by-rule })
-          (λ z. absurd (not-accepted refl z))
-      follow-kept go st at b l rest es ih order low here after is (leaf {e} {next} {q} m) =
-          one-more es e _ (record { levels = l; at = at; state = st; low = low; holds = here })
-          (ih q next b l rest (es ++ e ∷ []) (m .on) (omega arith) (m .within) low (inv .leaf low m is here) after)
-      follow-kept go st at b l rest es ih order low here after is (nest {e} {inside} {after = c} {q} m) =
-          one-more es e _ (record { levels = l; at = at; state = st; low = low; holds = here })
-          (ih q inside c (l - 1) _ (es ++ e ∷ []) (m .owns .on) (omega arith) (m .order) (omega arith) (inv .nest low m is here)
-          (λ p left xs h ord stop kept.
-          let there : p ≡ c = h .inside (omega arith) in
-          ih left c b l rest xs (omega arith) (omega arith) (m .within) low
-          (inv .out (m .deep) low (subst (λ (x : ℕ). look left x c (l - 1) ≡ End) there stop) (subst (λ (x : ℕ). P (l - 1) x xs left) there kept))
-          after))
+    -- ### Wherever a course stands
 
-      walk-kept :
-          MovesOn main len look
-          → (f : ℕ) (st : S) (at b l : ℕ) (rest : Rest S) (es : List Entry) → len - at < f → at ≤ b → l ≤ main → P l at es st → After b l rest
-          → Kept main len look P end top es (walk look f st at b l rest)
-      unfolding walk
-      walk-kept moves zero st at b l rest es enough order low here after = absurd (omega arith)
-      walk-kept moves (suc f) st at b l rest es enough order low here after =
-          follow-kept (walk look f) st at b l rest es
-          (λ q a' b' l' r xs on present ord lo holds next. walk-kept moves f q a' b' l' r xs (omega arith) ord lo holds next)
-          order low here after refl (moves st at b l order low)
+    pub course-keeps : {es : List Entry} {x : Stand S} → On es x → P (left (x .around)) (x .at) es (x .state)
+    course-keeps course.start = let all : levels ≡ left [] = omega arith in subst (λ (l : ℕ). P l at [] st) all begins
+    course-keeps (course.leaf c is) = inv .leaf (omega arith) (owns-of (owes c is)) is (course-keeps c)
+    course-keeps (course.nest {es} {x} {e} {inside} {q} c is) =
+        let down : left (x .around) - 1 ≡ left (x .end ∷ x .around) = omega arith in
+        subst (λ (l : ℕ). P l inside (es ++ e ∷ []) q) down (inv .nest (omega arith) (opens-of (owes c is)) is (course-keeps c))
+    course-keeps (course.leave {es} {x} {b} {bs} c inside is) =
+        let deep = stands c .deep in
+        let more : length (x .around) ≡ length (b ∷ bs) = ap length inside in
+        let up : left (x .around) ≡ left bs - 1 = omega arith in
+        let there : x .at ≡ x .end = ends-of (owes c is) .inside (omega arith) in
+        inv .out (omega arith) (omega arith) (subst₂ (λ (a l : ℕ). look (x .state) a (x .end) l ≡ End) there up is)
+        (subst₂ (λ (a l : ℕ). P l a es (x .state)) there up (course-keeps c))
 
-  -- ### The listing
+    -- ### Each entry
 
-  module _ (moves : MovesOn main len look) (inv : Invariant main len look P) where
-    pub run-kept :
-        (st : S) (at end levels : ℕ) (es : List Entry) → at ≤ end → levels ≤ main → P levels at es st
-        → Kept main len look P end levels es (run look len st at end levels)
-    unfolding run
-    run-kept st at end levels es order low here =
-        walk-kept levels end inv moves (enough len at) st at end levels done es (omega arith) order low here
-        (λ p x xs h ord stop holds.
-        nothing levels end xs Accepted p x
-        (record { levels = levels; at = p; end = end; state = x; low = low; order = ord; holds = holds; says = rw stop at-end })
-        (λ _. record { ends = h; holds = holds; stops = stop }))
+    module _ (Q : List Entry → Entry → Type 0) (has : Each main len look P Q) where
+      course-each : {es : List Entry} {x : Stand S} → On es x → Along Q [] es
+      course-each course.start = along-end
+      course-each (course.leaf c is) = along-more (course-each c) (has .leaf (omega arith) (owns-of (owes c is)) is (course-keeps c))
+      course-each (course.nest c is) = along-more (course-each c) (has .nest (omega arith) (opens-of (owes c is)) is (course-keeps c))
+      course-each (course.leave c inside is) = course-each c
 
-  -- ### Cut to a room
+      -- of the k-th entry that is listed in any room
+      pub cut-each :
+          (room : ℕ) → let es = cut room (run look len st at end levels) .entries in (k : ℕ) (d : Entry) → k < length es → Q (take k es) (getD es k d)
+      cut-each room =
+          along-at (subst (Along Q []) (sym (cut-entries room (run look len st at end levels)))
+          (along-take room (course-each (run-led main len look moves levels low st at end order .course))))
 
-  module _ (end levels room : ℕ) (es : List Entry) (w : Listing S) (k : Kept main len look P end levels es w) where
-    pub cut-reached : Reached main len look P (es ++ cut room w .entries)
-    cut-reached = subst (λ (l : List Entry). Reached main len look P (es ++ l)) (sym (cut-entries room w)) (k .reached room)
+    -- ### At the end of all blocks
 
-    -- an answer that is not "table full" is where a look had the walk stop
-    pub cut-stopped :
-        (cut room w .answer ≡ TableFull → ⊥) → Stopped main len look P (cut room w .answer) (cut room w .place) (es ++ cut room w .entries)
-    cut-stopped h =
-        subst (λ (a : Listed). Stopped main len look P (a .answer) (a .place) (es ++ a .entries))
-        (sym (cut-fits room w (cut-had-room room w h))) (k .stopped)
+    pub record Finished (r : Listed) : Type 0 where
+      pub state : S
+      pub ends : Ends len main (r .place) end levels
+      pub holds : P levels (r .place) (r .entries) state
+      pub stops : look state (r .place) end levels ≡ End
 
-    pub cut-finished :
-        cut room w .answer ≡ Accepted → Finished main len look P end levels (cut room w .place) (w .state) (es ++ cut room w .entries)
-    cut-finished h =
+    run-finished : let w = run look len st at end levels in w .answer ≡ Accepted → Finished (plain (w .answer) (w .place) (w .entries))
+    run-finished accepted =
+        let w = run look len st at end levels in
+        let l = run-led main len look moves levels low st at end order in
+        let f = stands (l .course) in
+        let said = said-end (l .says) accepted in
+        let alone = l .whole accepted in
+        let there : l .last ≡ stand (w .place) end [] (l .last .state) = λ i. record {
+          at = said .0 i;
+          end = (sym (ap (outermost (l .last .end)) alone) ∙ f .outer) i;
+          around = alone i;
+          state = l .last .state;
+        } in
+        let all : left [] ≡ levels = omega arith in
+        let stops = subst (λ (n : ℕ). look (l .last .state) (w .place) end n ≡ End) all (subst (λ (x : Stand S). seen look levels x ≡ End) there (said .1)) in
+        record {
+          state = l .last .state;
+          ends = ends-of (subst (Moves len main (w .place) end levels) stops (moves (l .last .state) (w .place) end levels (subst (λ (x : Stand S). x .at ≤ x .end) there (f .here)) low));
+          holds = subst (λ (n : ℕ). P n (w .place) (w .entries) (l .last .state)) all (subst (λ (x : Stand S). P (left (x .around)) (x .at) (w .entries) (x .state)) there (course-keeps (l .course)));
+          stops = stops;
+        }
+
+    pub cut-finished : (room : ℕ) → let r = cut room (run look len st at end levels) in r .answer ≡ Accepted → Finished r
+    cut-finished room h =
+        let w = run look len st at end levels in
         let all = cut-whole room w h in
-        subst (λ (a : Listed). Finished main len look P end levels (a .place) (w .state) (es ++ a .entries))
-        (sym all) (k .finished (sym (ap (λ (a : Listed). a .answer) all) ∙ h))
+        subst Finished (sym all) (run-finished (sym (ap (λ (a : Listed). a .answer) all) ∙ h))

@@ -2,10 +2,11 @@
 -- answer's; those of an accepted one reach the input's end.
 use mathlib.Core.Path.{_≡_, refl, sym, subst}
 use mathlib.Core.List.{List, [], _∷_, _++_}
-use Prim.Native.Nat.{ℕ, zero, suc, _+_, _≤_}
+use Prim.Native.Nat.{ℕ, zero, suc, _+_, _≤_, _<_}
 use native.Mathlib.Omega.{arith}
-use lib.ListN.{drop}
+use lib.ListN.{length, drop, getD}
 use Rattle.laws.specs.All.{All, empty, both}
+use Rattle.laws.proofs.All.{all-at}
 use Rattle.answer.specs.declared.Answer.{Answer}
 use Rattle.answer.specs.declared.Answer.the-variants.{Accepted, TableFull}
 use Rattle.answer.proofs.Names.{not-accepted}
@@ -14,9 +15,11 @@ use Rattle.walk.specs.Walk.{Step, Look, run}
 use Rattle.walk.specs.Room.{Listed, cut}
 use Rattle.walk.specs.Owed.{Moves, stops, MovesOn}
 use Rattle.walk.specs.Promised.{Tiles, none, next, total, Found, Full}
-use Rattle.walk.specs.Invariant.{Family, Invariant, Says, at-end, by-rule, Finished, Kept}
+use Rattle.walk.specs.Course.{Stand, stand, Course, Says, at-end, by-rule}
+use Rattle.walk.specs.Invariant.{Family, Invariant}
 use Rattle.walk.proofs.Cut.{plain, cut-case, cut-table-full}
-use Rattle.walk.proofs.Invariant.{run-kept, cut-finished}
+use Rattle.walk.proofs.Course.{Led, fits, moved, run-led}
+use Rattle.walk.proofs.Invariant.{course-keeps, cut-finished}
 
 -- ### Entries side by side
 
@@ -44,6 +47,15 @@ pub tiles-above : {a b : ℕ} {es : List Entry} (m : ℕ) → m ≤ a → Tiles 
 tiles-above m h none = empty
 tiles-above m h (next {e} k t) = let low : m ≤ e .block .place = omega arith in both low (tiles-above m (omega arith) t)
 
+-- entries side by side stand one behind another
+pub tiles-order :
+    {a b : ℕ} {es : List Entry} → Tiles a es b → (i j : ℕ) (d : Entry) → i < j → j < length es
+    → getD es i d .block .place + getD es i d .block .owned ≤ getD es j d .block .place
+tiles-order none i j d lt inside = absurd (omega arith)
+tiles-order (next h t) i zero d lt inside = absurd (omega arith)
+tiles-order (next {a} {e} h t) zero (suc j) d lt inside = let above = all-at (tiles-above (a + e .block .owned) (omega arith) t) j d (omega arith) in omega arith
+tiles-order (next h t) (suc i) (suc j) d lt inside = tiles-order t i j d (omega arith) (omega arith)
+
 -- where the table is full: up to the answer's place
 full-tiles : {a c : ℕ} {all : List Entry} {room : ℕ} {r : Listed} → Tiles a all c → Full all room r → Tiles a (r .entries) (r .place)
 full-tiles {a} {c} {r} t f =
@@ -70,22 +82,23 @@ module _ {S : Type 0} (main len : ℕ) (look : Look S) (moves : MovesOn main len
   }
 
   module _ (st : S) (at end levels : ℕ) (order : at ≤ end) (low : levels ≤ main) where
-    kept : Kept main len look (Tiled at) end levels [] (run look len st at end levels)
-    kept = run-kept main len look (Tiled at) moves (tiled at) st at end levels [] order low none
+    pub course-tiles : {es : List Entry} {x : Stand S} → Course look levels (stand at end [] st) es x → Tiles at es (x .at)
+    course-tiles = course-keeps main len look moves (Tiled at) (tiled at) st at end levels order low none
+
+    led : Led main len look moves levels low st at end order (run look len st at end levels)
+    led = run-led main len look moves levels low st at end order
 
     -- the look that had the walk stop
-    last-look : let w = run look len st at end levels in (kept .stopped .at ≤ w .place) × (w .answer ≡ TableFull → ⊥)
-    last-look =
-        let s = kept .stopped in
-        says-place (s .says) (moves (s .state) (s .at) (s .end) (s .levels) (s .order) (s .low))
+    last-look : let w = run look len st at end levels in (led .last .at ≤ w .place) × (w .answer ≡ TableFull → ⊥)
+    last-look = says-place (led .says) (moved main len look moves levels low st at end order (fits main len look moves levels low st at end order (led .course)))
 
     pub run-found : let w = run look len st at end levels in Found at (plain (w .answer) (w .place) (w .entries))
-    run-found = record { upto = kept .stopped .at; tiles = kept .stopped .holds; before = last-look .0 }
+    run-found = record { upto = led .last .at; tiles = course-tiles (led .course); before = last-look .0 }
 
     pub cut-found : (room : ℕ) → Found at (cut room (run look len st at end levels))
     cut-found room =
         let w = run look len st at end levels in
-        cut-case (Found at) room w run-found (λ r _ f. record { upto = r .place; tiles = full-tiles (run-found .tiles) f; before = omega arith })
+        cut-case (Found at) room w (λ _. run-found) (λ r _ f. record { upto = r .place; tiles = full-tiles (run-found .tiles) f; before = omega arith })
 
     -- where the table is full, the entries reach the header of the first that has no room
     pub cut-full-tiles :
@@ -96,11 +109,11 @@ module _ {S : Type 0} (main len : ℕ) (look : Look S) (moves : MovesOn main len
         let f = cut-table-full room (run look len st at end levels) (last-look .1) h in (f, full-tiles (run-found .tiles) f)
 
   -- a listing that is accepted at the main level reaches the input's end
-  whole : (a end p : ℕ) (st : S) (es : List Entry) → Finished main len look (Tiled a) end main p st es → Tiles a es len × (p ≡ len)
-  whole a end p st es f = let e = f .ends .whole refl in (subst (Tiles a es) e (f .holds), e)
-
   module _ (st : S) (at end : ℕ) (order : at ≤ end) where
     pub cut-accepted :
         (room : ℕ) → let r = cut room (run look len st at end main) in r .answer ≡ Accepted → Tiles at (r .entries) len × (r .place ≡ len)
     cut-accepted room accepted =
-        whole at end _ _ _ (cut-finished main len look (Tiled at) end main room [] _ (kept st at end main order (omega arith)) accepted)
+        let r = cut room (run look len st at end main) in
+        let f = cut-finished main len look moves (Tiled at) (tiled at) st at end main order (omega arith) none room accepted in
+        let e = f .ends .whole refl in
+        (subst (Tiles at (r .entries)) e (f .holds), e)

@@ -5,4 +5,5 @@ pub mod Unit
 pub mod Parents
 pub mod Owed
 pub mod Promised
+pub mod Course
 pub mod Invariant

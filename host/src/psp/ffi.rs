@@ -2,6 +2,9 @@
 
 use std::os::raw::c_double;
 
+/// PSP_VERSION: 0.2.0, as major times 10,000, minor times 100, patch.
+pub const VERSION: u32 = 200;
+
 // Every function: all is well.
 pub const ACCEPTED: u32 = 0;
 
@@ -196,6 +199,7 @@ pub struct Dots {
 }
 
 extern "C" {
+    pub fn psp_version() -> u32;
     pub fn psp_list(input: *const u8, length: usize, table: *mut u32, numbers: usize) -> Listed;
     pub fn psp_count(input: *const u8, length: usize, room: usize) -> Listed;
     pub fn psp_list_records(
@@ -268,5 +272,20 @@ mod tests {
         assert_eq!(size_of::<LayerChunk>(), 384);
         assert_eq!(size_of::<LayerFacts>(), 388);
         assert_eq!(size_of::<Dots>(), 16);
+    }
+
+    #[test]
+    fn every_file_that_has_the_version_has_this_one() {
+        let [major, minor, patch] = [VERSION / 10_000, VERSION / 100 % 100, VERSION % 100];
+        let header = include_str!("../../../include/psp.h");
+        for (name, part) in [("MAJOR", major), ("MINOR", minor), ("PATCH", patch)] {
+            let line = format!("#define PSP_VERSION_{} {}\n", name, part);
+            assert!(header.contains(&line), "include/psp.h: {}", line);
+        }
+        let line = format!("\nversion = \"{}.{}.{}\"\n", major, minor, patch);
+        assert!(include_str!("Cargo.toml").contains(&line), "{}", line);
+        let line = format!("const VERSION: u32 = {};\n", VERSION);
+        let library = include_str!("../../../crates/psp/src/version.rt");
+        assert!(library.contains(&line), "version.rt: {}", line);
     }
 }

@@ -1,49 +1,67 @@
 //! The proved library as safe functions over slices: the crate `psp`.
 //!
-//! The header asks two things of a caller, and the language gives both. No pointer is null: a
-//! slice's pointer never is, also at length 0. No buffer that is written overlaps another: `&mut`
-//! is borrowed alone. So every function here is safe for every argument, and each answer has
-//! document 01's number (0 is accepted).
+//! Each function tests its own arguments, allocates nothing, and gives what it is asked for or the
+//! [`Refusal`], whose number is document 01's. A program that wants the numbers themselves has the
+//! same functions in [`numbers`].
 
 pub mod ffi;
+pub mod numbers;
+pub mod refusal;
 
-pub use ffi::{Dots, Entry, ImageFacts, LayerFacts, Listed, Packed, Plane, Rect};
+pub use ffi::{Area, Entry, ImageChunk, LayerChunk, Rect, Resolution};
+pub use ffi::{ENTRY_NUMBERS, INPUT_LIMIT, LAYER_LIMIT, PLANE_LIMIT, SIDE_LIMIT};
+pub use refusal::{Refusal, RefusedListing, RefusedPlane};
 
-/// A part of a lent slice, empty when refused.
-#[derive(Clone, Copy, Debug, PartialEq, Eq)]
-pub struct View<'a> {
-    pub number: u32,
-    pub bytes: &'a [u8],
+use std::fmt::{self, Display, Formatter};
+
+/// A version of the library.
+#[derive(Clone, Copy, Debug, PartialEq, Eq, PartialOrd, Ord)]
+pub struct Version {
+    pub major: u32,
+    pub minor: u32,
+    pub patch: u32,
 }
 
-/// Lists an input into a table of numbers, thirteen an entry; the rest of the table is untouched.
-pub fn list(input: &[u8], table: &mut [u32]) -> Listed {
-    // SAFETY: both slices are valid for their lengths, and the table is borrowed alone.
-    unsafe { ffi::psp_list(input.as_ptr(), input.len(), table.as_mut_ptr(), table.len()) }
-}
-
-/// Gives the answer of a listing in a room of so many entries and stores nothing.
-pub fn count(input: &[u8], room: usize) -> Listed {
-    // SAFETY: the slice is valid for its length.
-    unsafe { ffi::psp_count(input.as_ptr(), input.len(), room) }
-}
-
-/// Lists an input into a table and into records alike, in the smaller room of the two.
-pub fn list_records(input: &[u8], table: &mut [u32], records: &mut [Entry]) -> Listed {
-    // SAFETY: the slices are valid for their lengths; the two that are written are borrowed alone.
-    unsafe {
-        ffi::psp_list_records(
-            input.as_ptr(),
-            input.len(),
-            table.as_mut_ptr(),
-            table.len(),
-            records.as_mut_ptr(),
-            records.len(),
-        )
+impl Display for Version {
+    fn fmt(&self, f: &mut Formatter<'_>) -> fmt::Result {
+        write!(f, "{}.{}.{}", self.major, self.minor, self.patch)
     }
 }
 
-/// Reads a stored channel into the first `plane` bytes of `dest`, `code` being the compression.
+/// Gives the version of the library that is linked.
+pub fn version() -> Version {
+    let number = numbers::version();
+    Version {
+        major: number / 10_000,
+        minor: number / 100 % 100,
+        patch: number % 100,
+    }
+}
+
+/// Lists an input into a table of numbers, thirteen an entry, and gives the count of entries. They
+/// stand in front of the table, also those found before a refusal, and its rest is untouched.
+pub fn list(input: &[u8], table: &mut [u32]) -> Result<usize, RefusedListing> {
+    listed(numbers::list(input, table))
+}
+
+/// Gives the count of a listing in a room of so many entries and stores nothing: with
+/// `usize::MAX` it is what a table needs.
+pub fn count(input: &[u8], room: usize) -> Result<usize, RefusedListing> {
+    listed(numbers::count(input, room))
+}
+
+/// Lists an input into a table and into records alike, in the smaller room of the two. The entries
+/// stand in front of both, also those found before a refusal, and both rests are untouched.
+pub fn list_records(
+    input: &[u8],
+    table: &mut [u32],
+    records: &mut [Entry],
+) -> Result<usize, RefusedListing> {
+    listed(numbers::list_records(input, table, records))
+}
+
+/// Reads a stored channel into the first `plane` bytes of `dest`, `code` being the compression, and
+/// gives how many were written. The rest of `dest` is untouched, and all of it when refused.
 pub fn read_plane(
     input: &[u8],
     start: usize,
@@ -51,102 +69,90 @@ pub fn read_plane(
     plane: usize,
     code: u32,
     dest: &mut [u8],
-) -> Plane {
-    // SAFETY: both slices are valid for their lengths, and dest is borrowed alone.
-    unsafe {
-        ffi::psp_read_plane(
-            input.as_ptr(),
-            input.len(),
-            start,
-            stored,
-            plane,
-            code,
-            dest.as_mut_ptr(),
-            dest.len(),
-        )
-    }
+) -> Result<usize, RefusedPlane> {
+    read(numbers::read_plane(input, start, stored, plane, code, dest))
 }
 
-/// Reads a stream of run-length packets into the first `plane` bytes of `dest`.
-pub fn unpack(stream: &[u8], dest: &mut [u8], plane: usize) -> Plane {
-    // SAFETY: both slices are valid for their lengths, and dest is borrowed alone.
-    unsafe {
-        ffi::psp_unpack(
-            stream.as_ptr(),
-            stream.len(),
-            dest.as_mut_ptr(),
-            dest.len(),
-            plane,
-        )
-    }
+/// Reads a stream of run-length packets into the first `plane` bytes of `dest`, and gives how many
+/// were written. The rest of `dest` is untouched, and all of it when refused.
+pub fn unpack(stream: &[u8], dest: &mut [u8], plane: usize) -> Result<usize, RefusedPlane> {
+    read(numbers::unpack(stream, dest, plane))
 }
 
-/// Packs a plane into `dest` as run-length packets.
-pub fn pack(plane: &[u8], dest: &mut [u8]) -> Packed {
-    // SAFETY: both slices are valid for their lengths, and dest is borrowed alone.
-    unsafe { ffi::psp_pack(plane.as_ptr(), plane.len(), dest.as_mut_ptr(), dest.len()) }
+/// Packs a plane into `dest` as run-length packets, and gives the length of the packed form.
+pub fn pack(plane: &[u8], dest: &mut [u8]) -> Result<usize, Refusal> {
+    let packed = numbers::pack(plane, dest);
+    good(packed.number, packed.length)
 }
 
-/// Places an 8-bit plane of rectangle `r` on a canvas of one byte a pixel; gives the number.
-pub fn place(width: u32, height: u32, canvas: &mut [u8], r: Rect, plane: &[u8]) -> u32 {
-    // SAFETY: both slices are valid for their lengths, and the canvas is borrowed alone.
-    unsafe {
-        ffi::psp_place(
-            width,
-            height,
-            canvas.as_mut_ptr(),
-            canvas.len(),
-            r,
-            plane.as_ptr(),
-            plane.len(),
-        )
-    }
+/// Places an 8-bit plane of rectangle `r` on a canvas of one byte a pixel.
+pub fn place(
+    width: u32,
+    height: u32,
+    canvas: &mut [u8],
+    r: Rect,
+    plane: &[u8],
+) -> Result<(), Refusal> {
+    good(numbers::place(width, height, canvas, r, plane), ())
 }
 
 /// Gives the pixels that two rectangles share, and 0,0,0,0 where there are none.
 pub fn intersect(a: Rect, b: Rect) -> Rect {
-    // SAFETY: only values travel.
-    unsafe { ffi::psp_intersect(a, b) }
+    numbers::intersect(a, b)
 }
 
 /// Shows the palette's entries, four bytes each, or the ramp of a grey image without one.
-pub fn palette<'a>(input: &'a [u8], room: usize, ramp: &'a [u8]) -> View<'a> {
-    // SAFETY: both slices are valid for their lengths, and nothing is written.
-    let part =
-        unsafe { ffi::psp_palette(input.as_ptr(), input.len(), room, ramp.as_ptr(), ramp.len()) };
-    view(if part.which == 1 { ramp } else { input }, part)
+pub fn palette<'a>(input: &'a [u8], room: usize, ramp: &'a [u8]) -> Result<&'a [u8], Refusal> {
+    let view = numbers::palette(input, room, ramp);
+    good(view.number, view.bytes)
 }
 
 /// Shows the name of layer `k`: its bytes before the first zero, or all 256.
-pub fn name(input: &[u8], room: usize, k: u32) -> View<'_> {
-    // SAFETY: the slice is valid for its length, and nothing is written.
-    let part = unsafe { ffi::psp_name(input.as_ptr(), input.len(), room, k) };
-    view(input, part)
+pub fn name(input: &[u8], room: usize, k: u32) -> Result<&[u8], Refusal> {
+    let view = numbers::name(input, room, k);
+    good(view.number, view.bytes)
 }
 
 /// Gives every field of the image chunk.
-pub fn image_facts(input: &[u8], room: usize) -> ImageFacts {
-    // SAFETY: the slice is valid for its length, and nothing is written.
-    unsafe { ffi::psp_read_image_facts(input.as_ptr(), input.len(), room) }
+pub fn image_facts(input: &[u8], room: usize) -> Result<ImageChunk, Refusal> {
+    let facts = numbers::image_facts(input, room);
+    good(facts.number, facts.image)
 }
 
 /// Gives every field of the chunk of layer `k`.
-pub fn layer_facts(input: &[u8], room: usize, k: u32) -> LayerFacts {
-    // SAFETY: the slice is valid for its length, and nothing is written.
-    unsafe { ffi::psp_read_layer_facts(input.as_ptr(), input.len(), room, k) }
+pub fn layer_facts(input: &[u8], room: usize, k: u32) -> Result<LayerChunk, Refusal> {
+    let facts = numbers::layer_facts(input, room, k);
+    good(facts.number, facts.layer)
 }
 
 /// Gives the dots per centimetre of a resolution, where there are any.
-pub fn dots_per_centimetre(value: f64, metric: u8) -> Dots {
-    // SAFETY: only values travel.
-    unsafe { ffi::psp_dots_per_centimetre(value, metric) }
+pub fn dots_per_centimetre(value: f64, metric: u8) -> Option<f64> {
+    let dots = numbers::dots_per_centimetre(value, metric);
+    match dots.known {
+        0 => None,
+        _ => Some(dots.value),
+    }
 }
 
-/// The part lies inside its slice by the library's promise; one that did not would show nothing.
-fn view(lent: &[u8], part: ffi::Part) -> View<'_> {
-    let end = part.start.saturating_add(part.length);
-    View {
-        number: part.number,
-        bytes: lent.get(part.start..end).unwrap_or(&[]),
+fn good<T>(number: u32, given: T) -> Result<T, Refusal> {
+    match Refusal::of(number) {
+        None => Ok(given),
+        Some(refusal) => Err(refusal),
     }
+}
+
+fn listed(answer: ffi::Listed) -> Result<usize, RefusedListing> {
+    let ffi::Listed { place, count, .. } = answer;
+    let refused = |refusal| RefusedListing {
+        refusal,
+        place,
+        count,
+    };
+    good(answer.number, count).map_err(refused)
+}
+
+fn read(answer: ffi::Plane) -> Result<usize, RefusedPlane> {
+    let place = answer.place;
+    let refused = |refusal| RefusedPlane { refusal, place };
+    good(answer.number, answer.bytes).map_err(refused)
 }

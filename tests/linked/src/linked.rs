@@ -1,7 +1,7 @@
 //! The library under test, through its C boundary: every answer is turned into
 //! the reference's form field by field, refusals as they come.
 
-use psp::ffi;
+use psp::{ffi, numbers};
 use reference::case::Stored;
 use reference::library::{Library, Listed, Record};
 use reference::psp::chunks::{ImageChunk, LayerChunk, Resolution};
@@ -11,11 +11,11 @@ use reference::psp::views::{Lender, PaletteView};
 
 pub struct Linked;
 
-fn listed(answer: psp::Listed) -> Listed {
+fn listed(answer: numbers::Listed) -> Listed {
     (answer.number, answer.place as u64, answer.count as u64)
 }
 
-fn plane_answer(answer: psp::Plane) -> PlaneAnswer {
+fn plane_answer(answer: numbers::Plane) -> PlaneAnswer {
     PlaneAnswer {
         number: answer.number,
         place: answer.place as u64,
@@ -23,9 +23,9 @@ fn plane_answer(answer: psp::Plane) -> PlaneAnswer {
     }
 }
 
-fn to_rect(rectangle: Rectangle) -> psp::Rect {
+fn to_rect(rectangle: Rectangle) -> numbers::Rect {
     let [left, top, right, bottom] = rectangle.corners();
-    psp::Rect {
+    numbers::Rect {
         left,
         top,
         right,
@@ -33,7 +33,7 @@ fn to_rect(rectangle: Rectangle) -> psp::Rect {
     }
 }
 
-fn to_rectangle(rect: psp::Rect) -> Rectangle {
+fn to_rectangle(rect: numbers::Rect) -> Rectangle {
     Rectangle {
         left: rect.left,
         top: rect.top,
@@ -42,10 +42,10 @@ fn to_rectangle(rect: psp::Rect) -> Rectangle {
     }
 }
 
-fn to_entry(record: &Record) -> psp::Entry {
+fn to_entry(record: &Record) -> numbers::Entry {
     let [id, skipped, level, place, owned, layer, bitmap, channel, start, stored, width, height, plane] =
         *record;
-    psp::Entry {
+    numbers::Entry {
         id,
         skipped,
         level,
@@ -62,7 +62,7 @@ fn to_entry(record: &Record) -> psp::Entry {
     }
 }
 
-fn to_record(entry: &psp::Entry) -> Record {
+fn to_record(entry: &numbers::Entry) -> Record {
     [
         entry.id,
         entry.skipped,
@@ -140,12 +140,12 @@ fn layer_chunk(layer: &ffi::LayerChunk) -> LayerChunk {
 
 impl Library for Linked {
     fn list(&self, input: &[u8], table: &mut [u32]) -> Listed {
-        listed(psp::list(input, table))
+        listed(numbers::list(input, table))
     }
 
     fn list_records(&self, input: &[u8], table: &mut [u32], records: &mut [Record]) -> Listed {
-        let mut entries: Vec<psp::Entry> = records.iter().map(to_entry).collect();
-        let answer = psp::list_records(input, table, &mut entries);
+        let mut entries: Vec<numbers::Entry> = records.iter().map(to_entry).collect();
+        let answer = numbers::list_records(input, table, &mut entries);
         for (record, entry) in records.iter_mut().zip(&entries) {
             *record = to_record(entry);
         }
@@ -153,31 +153,31 @@ impl Library for Linked {
     }
 
     fn count(&self, input: &[u8], room: usize) -> Listed {
-        listed(psp::count(input, room))
+        listed(numbers::count(input, room))
     }
 
     fn read_plane(&self, input: &[u8], stored: &Stored, destination: &mut [u8]) -> PlaneAnswer {
         let (start, length) = (stored.start as usize, stored.length as usize);
         let plane = stored.plane as usize;
-        let answer = psp::read_plane(input, start, length, plane, stored.code, destination);
+        let answer = numbers::read_plane(input, start, length, plane, stored.code, destination);
         plane_answer(answer)
     }
 
     fn unpack(&self, stream: &[u8], plane: u64, destination: &mut [u8]) -> PlaneAnswer {
-        plane_answer(psp::unpack(stream, destination, plane as usize))
+        plane_answer(numbers::unpack(stream, destination, plane as usize))
     }
 
     fn pack(&self, plane: &[u8], destination: &mut [u8]) -> (u32, u64) {
-        let packed = psp::pack(plane, destination);
+        let packed = numbers::pack(plane, destination);
         (packed.number, packed.length as u64)
     }
 
     fn place(&self, sides: [u32; 2], canvas: &mut [u8], saved: Rectangle, plane: &[u8]) -> u32 {
-        psp::place(sides[0], sides[1], canvas, to_rect(saved), plane)
+        numbers::place(sides[0], sides[1], canvas, to_rect(saved), plane)
     }
 
     fn intersect(&self, one: Rectangle, other: Rectangle) -> Rectangle {
-        to_rectangle(psp::intersect(to_rect(one), to_rect(other)))
+        to_rectangle(numbers::intersect(to_rect(one), to_rect(other)))
     }
 
     /// The part's own numbers, which a slice would not show, and the slice.
@@ -191,7 +191,7 @@ impl Library for Linked {
             1 => (Lender::Ramp, ramp),
             other => panic!("a palette is a part of slice {}", other),
         };
-        let shown = psp::palette(input, room, ramp).bytes;
+        let shown = numbers::palette(input, room, ramp).bytes;
         assert_eq!(shown, &lent[part.start..][..part.length], "the palette");
         PaletteView {
             number: part.number,
@@ -202,12 +202,12 @@ impl Library for Linked {
     }
 
     fn image_facts(&self, input: &[u8], room: usize) -> (u32, ImageChunk) {
-        let facts = psp::image_facts(input, room);
+        let facts = numbers::image_facts(input, room);
         (facts.number, image_chunk(&facts.image))
     }
 
     fn layer_facts(&self, input: &[u8], room: usize, k: u32) -> (u32, LayerChunk) {
-        let facts = psp::layer_facts(input, room, k);
+        let facts = numbers::layer_facts(input, room, k);
         (facts.number, layer_chunk(&facts.layer))
     }
 
@@ -215,13 +215,13 @@ impl Library for Linked {
         // SAFETY: the slice is valid for its length, and nothing is written.
         let part = unsafe { ffi::psp_name(input.as_ptr(), input.len(), room, k) };
         assert_eq!(part.which, 0, "a name is a part of the input");
-        let shown = psp::name(input, room, k).bytes;
+        let shown = numbers::name(input, room, k).bytes;
         assert_eq!(shown, &input[part.start..][..part.length], "the name");
         (part.number, part.start as u64, part.length as u64)
     }
 
     fn dots(&self, resolution: Resolution) -> Option<f64> {
-        let dots = psp::dots_per_centimetre(resolution.value, resolution.metric);
+        let dots = numbers::dots_per_centimetre(resolution.value, resolution.metric);
         match dots.known {
             0 => {
                 assert_eq!(dots.value.to_bits(), 0, "dots where there are none");

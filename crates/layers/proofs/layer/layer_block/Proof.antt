@@ -1,5 +1,4 @@
 use mathlib.Core.Path.{sym, _∙_}
-use native.Mathlib.Omega.{arith}
 use borrow.Author.Needs.{needs}
 use Rattle.walk.proofs.Unit.{unit-soon, unit-there}
 use Rattle.chunk.proofs.Rules.{layer-rules}
@@ -14,13 +13,8 @@ returns c = sym (unit-soon _ _ _ _ (c .if1 .taken))
 
 with-layer-requires : tie.Need-with-layer-requires
 with-layer-requires c κs =
-    let judged = c .before .before .before .before in
-    (layer-rules _ _ (sym (judged .judge .ensures) ∙ c .before .before .enum-told .given .1), judged .before .before .before .before .pre .1)
-
-add-after : tie.Need-add-t20
-add-after c =
-    let start = c .before .before .before .before .before .before .before .before .before in
-    omega (arith, start .pre .0, start .fits .total)
+    let judged = c .before .before .before in
+    (layer-rules _ _ (sym (judged .judge .ensures) ∙ c .before .enum-told .given .1), judged .before .before .before .before .pre .1)
 
 returns-2 : tie.Need-returns-2
 unfolding layerBlock permitted
@@ -32,9 +26,9 @@ returns-2 c =
 returns-3 : tie.Need-returns-3
 unfolding layerBlock permitted
 returns-3 c =
-    let judged = c .before .before .before .before .before in
-    rw (unit-there _ _ _ _ (judged .before .before .if1 .left), ← judged .before .decode .ensures, ← judged .judge .ensures, c .before .before .before .enum-told .given .1)
-    (rw (c .with-layer .ensures, c .before .ranked-entry .ensures, c .before .before .number-of .ensures))
+    let judged = c .before .before .before .before in
+    rw (unit-there _ _ _ _ (judged .before .before .if1 .left), ← judged .before .decode .ensures, ← judged .judge .ensures, c .before .before .enum-told .given .1)
+    (rw (c .with-layer .ensures, c .before .ranked-entry .ensures))
 
 pub layer-block-spec : {M : Type 1} → statement M
 layer-block-spec =
@@ -49,9 +43,8 @@ layer-block-spec =
     (λ c κs. search needs)
     (λ c. search needs)
     (λ c κs. search needs)
-    (λ c κs. search needs)
     (λ c. search needs)
     with-layer-requires
-    add-after
+    (λ c. search needs)
     returns-2
     returns-3)

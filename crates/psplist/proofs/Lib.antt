@@ -1,0 +1,2 @@
+-- One outcome of the program's listing.
+pub mod OneOutcome

@@ -1,0 +1,2 @@
+-- What the listing program lists of an input.
+pub mod Program

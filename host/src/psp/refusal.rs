@@ -1,0 +1,180 @@
+//! Why the library refuses: document 01's numbers by their names.
+
+use super::ffi;
+use std::error::Error;
+use std::fmt::{self, Display, Formatter};
+
+/// The one table of names, of the header's constants and of document 01's words for them.
+macro_rules! refusals {
+    ($($name:ident, $constant:ident, $meaning:literal;)*) => {
+        /// An answer of document 01 that is not 0, by its name in include/psp.h. A later version of
+        /// the library may have more of them.
+        #[derive(Clone, Copy, Debug, PartialEq, Eq, Hash)]
+        #[non_exhaustive]
+        pub enum Refusal {
+            $(#[doc = $meaning] $name,)*
+            /// a number that has no name here, of another version of the library
+            Unnamed(u32),
+        }
+
+        impl Refusal {
+            /// The refusal that a number of document 01 is; none for 0, accepted.
+            pub fn of(number: u32) -> Option<Refusal> {
+                match number {
+                    ffi::ACCEPTED => None,
+                    $(ffi::$constant => Some(Refusal::$name),)*
+                    _ => Some(Refusal::Unnamed(number)),
+                }
+            }
+
+            /// Document 01's number.
+            pub fn number(self) -> u32 {
+                match self {
+                    $(Refusal::$name => ffi::$constant,)*
+                    Refusal::Unnamed(number) => number,
+                }
+            }
+
+            /// Document 01's words for it.
+            pub fn meaning(self) -> &'static str {
+                match self {
+                    $(Refusal::$name => $meaning,)*
+                    Refusal::Unnamed(_) => "no number of document 01",
+                }
+            }
+        }
+    };
+}
+
+refusals! {
+    OverLimit, OVER_LIMIT, "input over the limit";
+    EndsTooSoon, ENDS_TOO_SOON, "ends too soon";
+    WrongSignature, WRONG_SIGNATURE, "signature wrong";
+    WrongVersion, WRONG_VERSION, "version not 3.0";
+    WrongMark, WRONG_MARK, "block mark is not 7E 42 4B 00";
+    WrongLength, WRONG_LENGTH, "length does not fit";
+    OutOfPlace, OUT_OF_PLACE, "known block out of place";
+    WrongField, WRONG_FIELD, "field value not permitted";
+    NotExpected, NOT_EXPECTED, "layer or channel not expected";
+    Missing, MISSING, "parent ended with layers or channels missing";
+    NotReadable, NOT_READABLE, "compression code 2";
+    TableFull, TABLE_FULL, "table full";
+    PlaneNoRoom, PLANE_NO_ROOM, "destination shorter than the plane";
+    PlaneCount128, PLANE_COUNT_128, "count 128";
+    PlaneDataMissing, PLANE_DATA_MISSING,
+        "packet data missing, or the plane not full at the stream's end";
+    PlaneTooMuch, PLANE_TOO_MUCH, "more than the plane has left";
+    PlaneUnknownCode, PLANE_UNKNOWN_CODE, "code not 0 or 1";
+    PlaneRawLength, PLANE_RAW_LENGTH, "raw length differs from the plane length";
+    PlaneOverLimit, PLANE_OVER_LIMIT, "plane length over the limit";
+    PlaneOutside, PLANE_OUTSIDE, "stored part not inside the input";
+    PackNoRoom, PACK_NO_ROOM, "destination shorter than the packed form";
+    PackOverLimit, PACK_OVER_LIMIT, "plane over the limit";
+    CanvasWrong, CANVAS_WRONG, "canvas side not 1 to 4,096, or canvas length not their product";
+    RectWrong, RECT_WRONG, "rectangle breaks a coordinate, order or side rule";
+    PlaneWrong, PLANE_WRONG, "plane length not row times height";
+    NoPalette, NO_PALETTE, "depth 24";
+    NoRamp, NO_RAMP, "grey, no palette listed, ramp not 1,024 bytes";
+    NoLayer, NO_LAYER, "no such layer";
+}
+
+/// A listing that was refused: why, at which place of the input, and how many entries were found
+/// before it. They stand in front of the lent table, and of the lent records.
+#[derive(Clone, Copy, Debug, PartialEq, Eq)]
+pub struct RefusedListing {
+    pub refusal: Refusal,
+    pub place: usize,
+    pub count: usize,
+}
+
+/// A plane that was refused: why, and at which place inside its stored channel or stream.
+#[derive(Clone, Copy, Debug, PartialEq, Eq)]
+pub struct RefusedPlane {
+    pub refusal: Refusal,
+    pub place: usize,
+}
+
+impl Display for Refusal {
+    fn fmt(&self, f: &mut Formatter<'_>) -> fmt::Result {
+        write!(f, "refused: {}, {}", self.number(), self.meaning())
+    }
+}
+
+impl Display for RefusedListing {
+    fn fmt(&self, f: &mut Formatter<'_>) -> fmt::Result {
+        write_at(f, self.refusal, self.place)
+    }
+}
+
+impl Display for RefusedPlane {
+    fn fmt(&self, f: &mut Formatter<'_>) -> fmt::Result {
+        write_at(f, self.refusal, self.place)
+    }
+}
+
+fn write_at(f: &mut Formatter<'_>, refusal: Refusal, place: usize) -> fmt::Result {
+    let (number, meaning) = (refusal.number(), refusal.meaning());
+    write!(f, "refused: {} at {}, {}", number, place, meaning)
+}
+
+impl Error for Refusal {}
+impl Error for RefusedListing {}
+impl Error for RefusedPlane {}
+
+#[cfg(test)]
+mod tests {
+    use super::*;
+
+    #[test]
+    fn every_number_of_document_01_has_a_name() {
+        let named = |number: &u32| !matches!(Refusal::of(*number), Some(Refusal::Unnamed(_)));
+        let names: Vec<u32> = (0..100).filter(named).collect();
+        let numbers = (0..=12).chain(20..=27).chain(30..=31).chain(40..=45);
+        assert_eq!(names, numbers.collect::<Vec<u32>>());
+    }
+
+    #[test]
+    fn names_and_numbers_are_those_of_the_header() {
+        let header = include_str!("../../../include/psp.h");
+        let answers = header
+            .split("/* ---- ")
+            .find(|part| part.starts_with("Answers"));
+        let lines = answers.unwrap().lines();
+        let mut count = 0;
+        for constant in lines.filter_map(|line| line.strip_prefix("#define PSP_")) {
+            let words: Vec<&str> = constant.split_whitespace().take(2).collect();
+            let refusal = Refusal::of(words[1].parse().unwrap());
+            let name = refusal.map_or("accepted".to_string(), |named| format!("{:?}", named));
+            assert_eq!(words[0].replace('_', ""), name.to_uppercase());
+            count += 1;
+        }
+        assert_eq!(count, 29);
+    }
+
+    #[test]
+    fn a_refusal_gives_its_number_back() {
+        assert_eq!(Refusal::of(0), None);
+        for number in 1..100 {
+            assert_eq!(Refusal::of(number).map(Refusal::number), Some(number));
+        }
+        assert_eq!(Refusal::of(45), Some(Refusal::NoLayer));
+    }
+
+    #[test]
+    fn a_refusal_is_said_with_number_place_and_meaning() {
+        let refusal = Refusal::EndsTooSoon;
+        assert_eq!(refusal.to_string(), "refused: 2, ends too soon");
+        let (place, count) = (517, 3);
+        let listing = RefusedListing {
+            refusal,
+            place,
+            count,
+        };
+        assert_eq!(listing.to_string(), "refused: 2 at 517, ends too soon");
+        let plane = RefusedPlane {
+            refusal: Refusal::PlaneCount128,
+            place: 3,
+        };
+        assert_eq!(plane.to_string(), "refused: 21 at 3, count 128");
+    }
+}

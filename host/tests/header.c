@@ -1,0 +1,116 @@
+/* The header against the archive, in C and in C++: header FILE, document 01's file of 521 bytes. Their versions agree, and every function
+ * takes a null pointer where the length is 0: its answer is the one that a buffer of length 0 gets. */
+#include <psp.h>
+#include <stdio.h>
+
+#ifdef __cplusplus
+#include <vector>
+#endif
+
+static int failed = 0;
+
+static void hold(int holds, const char *what) {
+  if (holds) return;
+  failed = 1;
+  printf("FAILED %s\n", what);
+}
+
+static int same_listed(psp_listed a, psp_listed b) { return a.number == b.number && a.place == b.place && a.count == b.count; }
+
+static int is_listed(psp_listed a, uint32_t number, size_t place, size_t count) {
+  return a.number == number && a.place == place && a.count == count;
+}
+
+static int is_plane(psp_plane a, uint32_t number, size_t place, size_t bytes) {
+  return a.number == number && a.place == place && a.bytes == bytes;
+}
+
+static int is_part(psp_part a, uint32_t number) { return a.number == number && a.which == 0 && a.start == 0 && a.length == 0; }
+
+/* Each buffer null in its turn, the others as they come. */
+static void listings(const uint8_t *file, size_t length) {
+  uint32_t table[2 * PSP_ENTRY_NUMBERS];
+  psp_entry records[2];
+  hold(is_listed(psp_list(NULL, 0, table, 2 * PSP_ENTRY_NUMBERS), PSP_ENDS_TOO_SOON, 0, 0), "psp_list: no input");
+  hold(is_listed(psp_list(file, length, NULL, 0), PSP_TABLE_FULL, 36, 0), "psp_list: no table");
+  hold(is_listed(psp_list(NULL, 0, NULL, 0), PSP_ENDS_TOO_SOON, 0, 0), "psp_list: neither");
+  hold(same_listed(psp_list(file, length, NULL, 0), psp_list(file, length, table, 0)), "psp_list: null as a table of length 0");
+  hold(is_listed(psp_count(NULL, 0, SIZE_MAX), PSP_ENDS_TOO_SOON, 0, 0), "psp_count: no input");
+  hold(is_listed(psp_list_records(NULL, 0, table, 26, records, 2), PSP_ENDS_TOO_SOON, 0, 0), "psp_list_records: no input");
+  hold(is_listed(psp_list_records(file, length, NULL, 0, records, 2), PSP_TABLE_FULL, 36, 0), "psp_list_records: no table");
+  hold(is_listed(psp_list_records(file, length, table, 26, NULL, 0), PSP_TABLE_FULL, 36, 0), "psp_list_records: no records");
+  hold(is_listed(psp_list_records(NULL, 0, NULL, 0, NULL, 0), PSP_ENDS_TOO_SOON, 0, 0), "psp_list_records: none");
+}
+
+static void planes(const uint8_t *file, size_t length) {
+  uint8_t dest[4];
+  psp_packed packed;
+  hold(is_plane(psp_read_plane(NULL, 0, 0, 0, 0, 0, dest, 4), PSP_ACCEPTED, 0, 0), "psp_read_plane: no input, raw");
+  hold(is_plane(psp_read_plane(NULL, 0, 0, 0, 0, 1, dest, 4), PSP_ACCEPTED, 0, 0), "psp_read_plane: no input, packets");
+  hold(is_plane(psp_read_plane(NULL, 0, 0, 0, 4, 1, dest, 4), PSP_PLANE_DATA_MISSING, 0, 0), "psp_read_plane: no input for a plane");
+  hold(is_plane(psp_read_plane(file, length, length, 0, 0, 0, NULL, 0), PSP_ACCEPTED, 0, 0), "psp_read_plane: no destination, raw");
+  hold(is_plane(psp_read_plane(file, length, length, 0, 0, 1, NULL, 0), PSP_ACCEPTED, 0, 0), "psp_read_plane: no destination, packets");
+  hold(is_plane(psp_read_plane(file, length, 517, 4, 4, 0, NULL, 0), PSP_PLANE_NO_ROOM, 0, 0), "psp_read_plane: no destination for a plane");
+  hold(is_plane(psp_read_plane(NULL, 0, 0, 0, 0, 0, NULL, 0), PSP_ACCEPTED, 0, 0), "psp_read_plane: neither, raw");
+  hold(is_plane(psp_read_plane(NULL, 0, 0, 0, 0, 1, NULL, 0), PSP_ACCEPTED, 0, 0), "psp_read_plane: neither, packets");
+  hold(is_plane(psp_unpack(NULL, 0, dest, 4, 0), PSP_ACCEPTED, 0, 0), "psp_unpack: no stream");
+  hold(is_plane(psp_unpack(NULL, 0, dest, 4, 4), PSP_PLANE_DATA_MISSING, 0, 0), "psp_unpack: no stream for a plane");
+  hold(is_plane(psp_unpack(file, 2, NULL, 0, 0), PSP_PLANE_TOO_MUCH, 0, 0), "psp_unpack: no destination");
+  hold(is_plane(psp_unpack(NULL, 0, NULL, 0, 0), PSP_ACCEPTED, 0, 0), "psp_unpack: neither");
+  packed = psp_pack(NULL, 0, dest, 4);
+  hold(packed.number == PSP_ACCEPTED && packed.length == 0, "psp_pack: no plane");
+  packed = psp_pack(file, 2, NULL, 0);
+  hold(packed.number == PSP_PACK_NO_ROOM && packed.length == 0, "psp_pack: no destination");
+  packed = psp_pack(NULL, 0, NULL, 0);
+  hold(packed.number == PSP_ACCEPTED && packed.length == 0, "psp_pack: neither");
+}
+
+static void canvases(void) {
+  const psp_rect empty = {0, 0, 0, 0};
+  const psp_rect square = {0, 0, 1, 1};
+  const uint8_t plane[4] = {9, 0, 0, 0};
+  uint8_t canvas[1] = {7};
+  hold(psp_place(1, 1, NULL, 0, square, plane, 4) == PSP_CANVAS_WRONG, "psp_place: no canvas");
+  hold(psp_place(1, 1, canvas, 1, empty, NULL, 0) == PSP_ACCEPTED, "psp_place: no plane");
+  hold(psp_place(1, 1, canvas, 1, square, NULL, 0) == PSP_PLANE_WRONG, "psp_place: no plane for a rectangle");
+  hold(psp_place(0, 0, NULL, 0, empty, NULL, 0) == PSP_CANVAS_WRONG, "psp_place: neither");
+  hold(canvas[0] == 7, "psp_place: the canvas is untouched");
+}
+
+static void views(const uint8_t *file, size_t length) {
+  static const uint8_t ramp[1024] = {0};
+  psp_image_facts image = psp_read_image_facts(NULL, 0, SIZE_MAX);
+  psp_layer_facts layer = psp_read_layer_facts(NULL, 0, SIZE_MAX, 0);
+  hold(image.number == PSP_ENDS_TOO_SOON && image.image.width == 0, "psp_read_image_facts: no input");
+  hold(layer.number == PSP_ENDS_TOO_SOON && layer.layer.name[0] == 0, "psp_read_layer_facts: no input");
+  hold(is_part(psp_palette(NULL, 0, SIZE_MAX, ramp, 1024), PSP_ENDS_TOO_SOON), "psp_palette: no input");
+  hold(is_part(psp_palette(file, length, SIZE_MAX, NULL, 0), PSP_NO_RAMP), "psp_palette: no ramp");
+  hold(is_part(psp_palette(NULL, 0, SIZE_MAX, NULL, 0), PSP_ENDS_TOO_SOON), "psp_palette: neither");
+  hold(is_part(psp_name(NULL, 0, SIZE_MAX, 0), PSP_ENDS_TOO_SOON), "psp_name: no input");
+}
+
+static void vectors(void) {
+#ifdef __cplusplus
+  std::vector<uint8_t> bytes;
+  std::vector<uint32_t> table;
+  hold(is_listed(psp_list(bytes.data(), bytes.size(), table.data(), table.size()), PSP_ENDS_TOO_SOON, 0, 0), "psp_list: empty vectors");
+#endif
+}
+
+int main(int argc, char **argv) {
+  static uint8_t file[521];
+  FILE *open = argc == 2 ? fopen(argv[1], "rb") : NULL;
+  if (open == NULL || fread(file, 1, sizeof file, open) != sizeof file) {
+    printf("FAILED header FILE: the file cannot be read\n");
+    return 1;
+  }
+  fclose(open);
+  hold(psp_version() == PSP_VERSION, "psp_version: header and library are of one version");
+  hold(psp_count(file, sizeof file, SIZE_MAX).number == PSP_ACCEPTED, "the file is accepted");
+  listings(file, sizeof file);
+  planes(file, sizeof file);
+  canvases();
+  views(file, sizeof file);
+  vectors();
+  return failed;
+}
