@@ -30,9 +30,10 @@ pub other-not : (a b : Bool) → (a && b) ≡ false → a ≡ true → b ≡ fal
 other-not true b h e = h
 other-not false b h e = never e
 
+-- by what a test says
+pub yes-or-no : {X : Type 0} (b : Bool) → (b ≡ true → X) → (b ≡ false → X) → X
+yes-or-no true f g = f refl
+yes-or-no false f g = g refl
+
 pub less-or-not : (m n : ℕ) → (m < n) ⊎ (n ≤ m)
-less-or-not m n = by (ltb m n) refl
-  where
-    by : (b : Bool) → ltb m n ≡ b → (m < n) ⊎ (n ≤ m)
-    by true h = inl (ltb-true m n h)
-    by false h = inr (ltb-false m n h)
+less-or-not m n = yes-or-no (ltb m n) (λ h. inl (ltb-true m n h)) (λ h. inr (ltb-false m n h))

@@ -2,7 +2,7 @@
 -- input changes it only where it was not all there. So no other law has to know its answers.
 use mathlib.Core.Path.{_≡_, refl, sym, ap, _∙_}
 use mathlib.Core.Logic.{_⊎_, inl, inr}
-use mathlib.Core.Bool.{Bool, true, false}
+use mathlib.Core.Bool.{true, false}
 use mathlib.Core.List.{List, [], _++_}
 use Prim.Native.Nat.{ℕ, _≤_, _<_}
 use native.Mathlib.Omega.{arith}
@@ -12,7 +12,7 @@ use Rattle.limits.specs.Limits.{inputLimit}
 use Rattle.laws.specs.Choice.{pick}
 use Rattle.laws.proofs.Choice.{pick-yes, pick-no, pick-ind}
 use Rattle.laws.proofs.Part.{part-longer}
-use Rattle.laws.proofs.Tests.{never, less-or-not}
+use Rattle.laws.proofs.Tests.{never, yes-or-no, less-or-not}
 use Rattle.answer.specs.declared.Refusal.the-variants.{EndsTooSoon}
 use Rattle.answer.specs.declared.Answer.the-variants.{Accepted, WrongSignature, WrongVersion, Refused}
 use Rattle.answer.specs.declared.Outcome.{Outcome}
@@ -93,8 +93,5 @@ module _ (s : List ℕ) where
 
   -- an accepted input has a header that passes
   pub accepted-good : (room : ℕ) → listed s room .answer ≡ Accepted → isAccepted (headOf s .answer) ≡ true
-  accepted-good room ok = by (isAccepted (headOf s .answer)) refl
-    where
-      by : (b : Bool) → isAccepted (headOf s .answer) ≡ b → isAccepted (headOf s .answer) ≡ true
-      by true e = e
-      by false e = accepted-yes (sym (ap (λ (r : Listed). r .answer) (refused-head room e)) ∙ ok)
+  accepted-good room ok =
+      yes-or-no (isAccepted (headOf s .answer)) (λ e. e) (λ e. accepted-yes (sym (ap (λ (r : Listed). r .answer) (refused-head room e)) ∙ ok))

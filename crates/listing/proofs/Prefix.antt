@@ -1,8 +1,8 @@
 -- More input never takes anything back: what is listed of a beginning stands in the whole, and two inputs agree on what lies wholly in a
 -- beginning that they share. So a file may be listed as it comes in.
-use mathlib.Core.Path.{_≡_, refl, sym, ap, _∙_}
+use mathlib.Core.Path.{_≡_, sym, ap, _∙_}
 use mathlib.Core.Logic.{⊎-elim}
-use mathlib.Core.Bool.{Bool, true, false}
+use mathlib.Core.Bool.{true}
 use mathlib.Core.List.{List, _++_}
 use Prim.Native.Nat.{ℕ, _+_, _≤_, _<_}
 use native.Mathlib.Omega.{arith}
@@ -12,6 +12,7 @@ use Rattle.limits.specs.Limits.{inputLimit}
 use Rattle.laws.specs.Choice.{pick}
 use Rattle.laws.specs.Front.{Front}
 use Rattle.laws.proofs.Choice.{pick-ind₂}
+use Rattle.laws.proofs.Tests.{yes-or-no}
 use Rattle.laws.proofs.All.{all-at}
 use Rattle.laws.proofs.Front.{front-refl, front-take}
 use Rattle.answer.specs.declared.Outcome.{Outcome}
@@ -57,11 +58,7 @@ more-room s room more le =
 -- entries come behind a header that passes only, and from its end on
 module _ (s : List ℕ) (room k : ℕ) (d : Entry) (some : k < length (listed s room .entries)) where
   pub listed-good : isAccepted (headOf s .answer) ≡ true
-  listed-good = by (isAccepted (headOf s .answer)) refl
-    where
-      by : (b : Bool) → isAccepted (headOf s .answer) ≡ b → isAccepted (headOf s .answer) ≡ true
-      by true e = e
-      by false e = absurd (omega (arith, ap length (refused-empty s room e)))
+  listed-good = yes-or-no (isAccepted (headOf s .answer)) (λ e. e) (λ e. absurd (omega (arith, ap length (refused-empty s room e))))
 
   pub listed-behind : fileHeaderSize ≤ getD (listed s room .entries) k d .block .place
   listed-behind = all-at (tiles-above fileHeaderSize (omega arith) (found-before s room listed-good .tiles)) k d some

@@ -3,7 +3,8 @@ use mathlib.Core.Path.{_≡_, refl, sym, ap, ap₂, subst, _∙_}
 use mathlib.Core.Logic.{⊎-elim}
 use mathlib.Core.List.{List, [], _∷_, _++_, append-assoc}
 use Prim.Native.Nat.{ℕ, zero, suc, _+_, _-_, _≤_, _<_}
-use native.Mathlib.Numerals.{add-one}
+use native.Mathlib.Nat.{pos-of-ne-zero}
+use native.Mathlib.Numerals.{add-one, lt-of-le-of-ne}
 use native.Mathlib.Omega.{arith}
 use borrow.Author.Tests.{lt-ltb, le-ltb}
 use lib.ListN.{length, take, drop, getD, length-append, length-drop, length-replicate, take-append-drop}
@@ -131,7 +132,7 @@ split {stream} {q} st = subst (λ (l : List ℕ). Split l q) (sym (st .is)) (⊎
     above : 128 ≤ st .count → Split (st .count ∷ st .rest) q
     above high =
         let is : Run (st .count - 128) (getD (st .rest) 0 0) ≡ q = sym (pick-no _ _ _ (le-ltb (st .count) 128 high)) ∙ st .packet in
-        let over : 128 < st .count = ⊎-elim (λ (h : 128 < st .count). h) (λ (h : st .count ≤ 128). absurd (st .no-128 (omega arith))) (less-or-not 128 (st .count)) in
+        let over : 128 < st .count = lt-of-le-of-ne high (λ e. st .no-128 (sym e)) in
         subst (Split (st .count ∷ st .rest)) is (split-run (st .count) (st .rest) over (subst (λ (p : Packet). dataOf p ≤ length (st .rest)) (sym is) (st .there)))
 
 -- bytes come of bytes only
@@ -158,7 +159,7 @@ one-more {s} {left} {q} ys st (o, rest) =
     let same : length ys ≡ length (givenAll (o .packets)) = ap length (o .gives) in
     let is : bytesOf q s ++ ys ≡ given (sp .full) ++ givenAll (o .packets) = ap₂ _++_ (sp .gives) (o .gives) in
     let total : length (given (sp .full) ++ givenAll (o .packets)) ≡ left = omega (arith, sp .long, st .room) in
-    let some : 0 < length (givenAll (sp .full ∷ o .packets)) = ⊎-elim (λ (h : 0 < left). omega arith) (λ (h : left ≤ 0). absurd (st .unfull (omega arith))) (less-or-not 0 left) in (
+    let some : 0 < length (givenAll (sp .full ∷ o .packets)) = omega (arith, pos-of-ne-zero (st .unfull)) in (
       record {
         packets = sp .full ∷ o .packets;
         good = more (sp .counted) some (o .good);
@@ -196,13 +197,8 @@ means-packets s plane xs e = comes (suc (length s)) s 0 plane xs e
 -- ### A stream that is refused
 
 -- from a place of a stream on, with so many bytes of the plane left
-record Refusing (s : List ℕ) (at left number place : ℕ) : Type 0 where
-  packets : List FullPacket
-  ahead : Ahead packets left
-  rest : List ℕ
-  is : s ≡ storedAll packets ++ rest
-  there : place ≡ at + length (storedAll packets)
-  refuses : lookNumber (lookOf rest (left - length (givenAll packets))) ≡ number
+abbrev Refusing : List ℕ → ℕ → ℕ → ℕ → ℕ → Type 0
+Refusing s at left number place = (p : ℕ) × RefusedAt s left number p × (place ≡ at + p)
 
 abbrev numberIn : Outcome → ℕ
 numberIn (bytes xs) = 0
@@ -214,35 +210,38 @@ placeIn (refused number place) = place
 
 -- refused here
 here : {s : List ℕ} (at : ℕ) {left : ℕ} {k : Look} (n number place : ℕ) → lookOf s left ≡ k → lookNumber k ≡ n → refused n at ≡ refused number place → Refusing s at left number place
-here {s} at {left} n number place is told e = record {
-  packets = [];
-  ahead = nothing;
-  rest = s;
-  is = refl;
-  there = sym (ap placeIn e) ∙ omega arith;
-  refuses = ap (λ (m : ℕ). lookNumber (lookOf s m)) (omega arith) ∙ ap lookNumber is ∙ told ∙ ap numberIn e;
-}
+here {s} at {left} n number place is told e =
+    let r : RefusedAt s left number 0 = record {
+      packets = [];
+      ahead = nothing;
+      rest = s;
+      is = refl;
+      there = refl;
+      refuses = ap (λ (m : ℕ). lookNumber (lookOf s m)) (omega arith) ∙ ap lookNumber is ∙ told ∙ ap numberIn e;
+    } in
+    (0, r, sym (ap placeIn e) ∙ omega arith)
 
 -- behind a packet
 behind :
-    {s : List ℕ} {at left : ℕ} {q : Packet} {number place : ℕ} → Stood s left q → Refusing (drop (sizeOf q) s) (at + sizeOf q) (left - countOf q) number place
+    {s : List ℕ} (at : ℕ) {left : ℕ} {q : Packet} {number place : ℕ} → Stood s left q → Refusing (drop (sizeOf q) s) (at + sizeOf q) (left - countOf q) number place
     → Refusing s at left number place
-behind {s} {at} {left} {q} st r =
+behind {s} at {left} {q} {number} st (p, r, from) =
     let sp = split st in
     let all = length-append (given (sp .full)) (givenAll (r .packets)) in
     let both = length-append (stored (sp .full)) (storedAll (r .packets)) in
-    let some : 0 < left = ⊎-elim (λ (h : 0 < left). h) (λ (h : left ≤ 0). absurd (st .unfull (omega arith))) (less-or-not 0 left) in
+    let some : 0 < left = pos-of-ne-zero (st .unfull) in
     let fits : length (given (sp .full)) ≤ left = omega (arith, sp .long, st .room) in
     let on : left - countOf q ≡ left - length (given (sp .full)) = omega (arith, sp .long) in
     let after : left - countOf q - length (givenAll (r .packets)) ≡ left - length (given (sp .full) ++ givenAll (r .packets)) = omega (arith, sp .long) in
-    record {
+    let more : RefusedAt s left number (sizeOf q + p) = record {
       packets = sp .full ∷ r .packets;
       ahead = then (sp .counted) some fits (subst (Ahead (r .packets)) on (r .ahead));
       rest = r .rest;
       is = sp .front ∙ ap (λ (l : List ℕ). stored (sp .full) ++ l) (r .is) ∙ sym (append-assoc (stored (sp .full)) (storedAll (r .packets)) (r .rest));
-      there = r .there ∙ omega (arith, sp .size);
+      there = omega (arith, sp .size, r .there);
       refuses = ap (λ (m : ℕ). lookNumber (lookOf (r .rest) m)) (sym after) ∙ r .refuses;
-    }
+    } in
+    (sizeOf q + p, more, omega arith)
 
 joined-refused : (front : List ℕ) (o : Outcome) (number place : ℕ) → join front o ≡ refused number place → o ≡ refused number place
 joined-refused front (bytes ys) number place e = absurd (let never : _≡_ {A = ℕ} 0 1 = cc in omega arith)
@@ -256,7 +255,7 @@ shown-refuses at on number place ih is (ended nil full) e = absurd (let never : 
 shown-refuses at on number place ih is count-128 e = here at 21 number place is refl e
 shown-refuses at on number place ih is missing e = here at 22 number place is refl e
 shown-refuses at on number place ih is too-much e = here at 23 number place is refl e
-shown-refuses {s} at on number place ih is (next {q} st) e = behind st (ih q st (joined-refused (bytesOf q s) (on q) number place e))
+shown-refuses {s} at on number place ih is (next {q} st) e = behind at st (ih q st (joined-refused (bytesOf q s) (on q) number place e))
 
 refuses : (f : ℕ) (s : List ℕ) (at left number place : ℕ) → length s < f → meaningWith f s at left ≡ refused number place → Refusing s at left number place
 unfolding meaningWith
@@ -273,4 +272,5 @@ pub refused-at : (s : List ℕ) (plane number place : ℕ) → meaning s plane �
 unfolding meaning
 refused-at s plane number place e =
     let r = refuses (suc (length s)) s 0 plane number place (omega arith) e in
-    record { packets = r .packets; ahead = r .ahead; rest = r .rest; is = r .is; there = r .there ∙ omega arith; refuses = r .refuses }
+    let same : r .0 ≡ place = omega (arith, r .2) in
+    subst (RefusedAt s plane number) same (r .1)

@@ -62,35 +62,40 @@ meaning-right s plane =
     end : (n : ℕ) → 0 + n ≡ n
     end n = omega arith
 
--- good: all of the stream is read, the plane is written, the rest is kept; otherwise nothing is written, and 0 bytes are told
-pub data Honest (stored plane : ℕ) (before : List ℕ) : Result Plane → Type 0 where
-  whole : (xs : List ℕ) → length xs ≡ plane → plane ≤ length before → Honest stored plane before (filled stored plane xs before)
-  alone : (number place : ℕ) → 20 ≤ number → number ≤ 27 → place ≤ stored → Honest stored plane before (record { told = refusal number place; dest = before })
+-- good: all of the stream is read, the plane is written, the rest is kept; otherwise a number from 20 up to the highest is told with 0 bytes,
+-- and nothing is written
+pub data Honest (highest stored plane : ℕ) (before : List ℕ) : Result Plane → Type 0 where
+  whole : (xs : List ℕ) → length xs ≡ plane → plane ≤ length before → Honest highest stored plane before (filled stored plane xs before)
+  alone : (number place : ℕ) → 20 ≤ number → number ≤ highest → place ≤ stored → Honest highest stored plane before (record { told = refusal number place; dest = before })
 
 honest-outcome :
     (stored plane : ℕ) (before : List ℕ) → plane ≤ length before → {o : Outcome} → Right 0 stored plane o
-    → Honest stored plane before (record { told = verdict stored plane o; dest = laid plane before o })
+    → Honest 23 stored plane before (record { told = verdict stored plane o; dest = laid plane before o })
 honest-outcome stored plane before room (given {xs} e) = whole xs e room
 honest-outcome stored plane before room (stopped number place low high from to) = alone number place (omega arith) (omega arith) to
 
-pub unpacked-honest : (s : List ℕ) (plane : ℕ) (before : List ℕ) → Honest (length s) plane before (unpacked s plane before)
+pub unpacked-honest : (s : List ℕ) (plane : ℕ) (before : List ℕ) → Honest 23 (length s) plane before (unpacked s plane before)
 unfolding unpacked
 unpacked-honest s plane before =
-    pick-ind (Honest (length s) plane before) _ _ _ (λ _. alone 20 0 (omega arith) (omega arith) (omega arith))
+    pick-ind (Honest 23 (length s) plane before) _ _ _ (λ _. alone 20 0 (omega arith) (omega arith) (omega arith))
     (λ room. honest-outcome (length s) plane before (ltb-false _ _ room) (meaning-right s plane))
 
+honest-more : {low high stored plane : ℕ} {before : List ℕ} {r : Result Plane} → low ≤ high → Honest low stored plane before r → Honest high stored plane before r
+honest-more le (whole xs e room) = whole xs e room
+honest-more le (alone number place from to at) = alone number place from (omega arith) at
+
 pub plane-honest :
-    (input : List ℕ) (start stored plane code : ℕ) (before : List ℕ) → Honest stored plane before (planeRead input start stored plane code before)
+    (input : List ℕ) (start stored plane code : ℕ) (before : List ℕ) → Honest 27 stored plane before (planeRead input start stored plane code before)
 unfolding planeRead
 plane-honest input start stored plane code before =
-    let H = Honest stored plane before in
+    let H = Honest 27 stored plane before in
     let no : (number : ℕ) → 20 ≤ number → number ≤ 27 → H (untouched number before) = λ number low high. alone number 0 low high (omega arith) in
     pick-ind H _ _ _ (λ _. no 24 (omega arith) (omega arith)) (λ _.
     pick-ind H _ _ _ (λ _. no 26 (omega arith) (omega arith)) (λ _.
     pick-ind H _ _ _ (λ _. no 27 (omega arith) (omega arith)) (λ there.
     let len : length (part input start stored) ≡ stored = part-length input start stored (ltb-false _ _ there) in
     pick-ind H _ _ _ (λ _. no 20 (omega arith) (omega arith)) (λ room.
-    pick-ind H _ _ _ (λ _. subst (λ (n : ℕ). Honest n plane before (unpacked (part input start stored) plane before)) len (unpacked-honest (part input start stored) plane before)) (λ _.
+    pick-ind H _ _ _ (λ _. subst (λ (n : ℕ). Honest 27 n plane before (unpacked (part input start stored) plane before)) len (honest-more (omega arith) (unpacked-honest (part input start stored) plane before))) (λ _.
     pick-ind H _ _ _ (λ e. whole (part input start stored) (len ∙ eqb-true stored plane e) (ltb-false _ _ room)) (λ _.
     no 25 (omega arith) (omega arith)))))))
 

@@ -1,7 +1,6 @@
 -- Demand 1, shown: every listing is exact, and every call that refuses leaves what was lent.
 use mathlib.Core.Path.{_≡_, refl, sym, ap, subst, _∙_}
 use mathlib.Core.Logic.{inl, inr}
-use mathlib.Core.Bool.{Bool, true, false}
 use mathlib.Core.List.{List, _++_}
 use Prim.Native.Nat.{ℕ, _/_, _≤_}
 use native.Mathlib.Omega.{arith}
@@ -10,6 +9,7 @@ use lib.Dec.{ltb}
 use lib.ListN.{length, take, drop, length-append, length-drop}
 use lib.Seq.{take-at, drop-at}
 use Rattle.laws.proofs.Choice.{pick-ind}
+use Rattle.laws.proofs.Tests.{yes-or-no}
 use Rattle.laws.specs.Lists.{part}
 use Rattle.laws.specs.Results.{Result}
 use Rattle.answer.specs.declared.Refusal.{Refusal}
@@ -60,17 +60,9 @@ head-number s =
     pick-ind N _ _ _ (λ _. pick-ind N _ _ _ (λ _. omega arith) (λ _. omega arith)) (λ _. omega arith)))
 
 module _ (s : List ℕ) (room : ℕ) where
-  -- by whether the file header passes
-  by-header : {X : Type 0} → (isAccepted (headOf s .answer) ≡ true → X) → (isAccepted (headOf s .answer) ≡ false → X) → X
-  by-header {X} good bad = by (isAccepted (headOf s .answer)) refl
-    where
-      by : (b : Bool) → isAccepted (headOf s .answer) ≡ b → X
-      by true e = good e
-      by false e = bad e
-
   listed-exact : Exact s room (listed s room)
   listed-exact =
-      by-header
+      yes-or-no (isAccepted (headOf s .answer))
       (λ good. subst (λ (w : Listing State). Exact s room (cut room w)) (sym (behind-head s good))
       (blocks good (cut-exact main (length s) (stepAt s) (moves s) start fileHeaderSize beyond main (omega arith) (omega arith) room)))
       (λ bad. subst (Exact s room) (sym (refused-head s room bad)) (header bad))
@@ -83,7 +75,7 @@ module _ (s : List ℕ) (room : ℕ) where
 
   first-without-room : listed s room .answer ≡ TableFull → Full (listing s .entries) room (listed s room)
   first-without-room full =
-      by-header (λ good. full-table s room good full .0)
+      yes-or-no (isAccepted (headOf s .answer)) (λ good. full-table s room good full .0)
       (λ bad.
       let answers : headOf s .answer ≡ TableFull = sym (ap (λ (r : Listed). r .answer) (refused-head s room bad)) ∙ full in
       absurd (omega (arith, head-number s, ap answerNumber answers)))
@@ -162,11 +154,13 @@ listing-number (Refused r) = refusal-number r
 listing-number TableFull = omega arith
 
 -- by what an honest answer leaves
-honest-refuses : {stored plane : ℕ} {before : List ℕ} {r : Result Plane} → Honest stored plane before r → Refuses (λ (p : Plane). p .number) 20 27 before r
+honest-refuses :
+    {highest stored plane : ℕ} {before : List ℕ} {r : Result Plane} → Honest highest stored plane before r
+    → Refuses (λ (p : Plane). p .number) 20 highest before r
 honest-refuses (whole xs e room) = record { numbered = inl refl; untouched = λ no. absurd (no refl) }
 honest-refuses (alone number place low high at) = record { numbered = inr (low, high); untouched = λ no. refl }
 
-pub unpack-refuses : (stream : List ℕ) (plane : ℕ) (dest : List ℕ) → Refuses (λ (p : Plane). p .number) 20 27 dest (unpacked stream plane dest)
+pub unpack-refuses : (stream : List ℕ) (plane : ℕ) (dest : List ℕ) → Refuses (λ (p : Plane). p .number) 20 23 dest (unpacked stream plane dest)
 unpack-refuses stream plane dest = honest-refuses (unpacked-honest stream plane dest)
 
 pub plane-refuses :

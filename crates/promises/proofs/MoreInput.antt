@@ -5,11 +5,9 @@ use mathlib.Core.List.{List, _++_}
 use Prim.Native.Nat.{ℕ, _≤_, _<_}
 use native.Mathlib.Omega.{arith}
 use lib.ListN.{length, getD}
-use Rattle.laws.specs.Front.{Front}
 use Rattle.laws.proofs.Front.{front-length, front-at}
 use Rattle.laws.proofs.Part.{part-longer}
 use Rattle.limits.specs.Limits.{inputLimit}
-use Rattle.answer.specs.declared.Answer.the-variants.{Accepted, TableFull}
 use Rattle.entry.specs.declared.Entry.{Entry}
 use Rattle.entry.specs.Entry.{nowhere}
 use Rattle.headers.specs.Places.{imageChunkPlace}
@@ -19,7 +17,6 @@ use Rattle.packet.specs.Reading.{planeRead}
 use Rattle.packet.proofs.PlaneTests.{plane-longer}
 use Rattle.listing.specs.Listing.{listed}
 use Rattle.listing.specs.Right.{isChannel, imageIn}
-use Rattle.listing.proofs.Prefix as prefix
 use Rattle.listing.proofs.Prefix.{beginning}
 use Rattle.listing.proofs.RightEntries.{each-right}
 use Rattle.promises.specs.MoreInput.{planeOf, Kept}
@@ -54,11 +51,3 @@ module _ (s t : List ℕ) (room more : ℕ) (small : length (s ++ t) ≤ inputLi
     planes = plane-kept;
     refusal = λ accepted soon full. sym (beginning s t room more small le .settled accepted soon full);
   }
-
-  -- an accepted beginning: its whole list stands in front of the longer's
-  pub accepted-kept : listed s room .answer ≡ Accepted → Front es longer
-  accepted-kept good = beginning s t room more small le .entries
-
--- a full table: with more room at least the same entries are listed
-pub full-kept : (s : List ℕ) (room more : ℕ) → room ≤ more → listed s room .answer ≡ TableFull → Front (listed s room .entries) (listed s more .entries)
-full-kept s room more le full = prefix.more-room s room more le

@@ -1,8 +1,8 @@
 -- Demand 2, shown: the table in file order and right entry by entry, an accepted file owned whole, planes that are what their packets mean.
 use mathlib.Core.Path.{_≡_, refl, sym, ap, _∙_}
-use mathlib.Core.Logic.{⊎-elim}
 use mathlib.Core.List.{List}
 use Prim.Native.Nat.{ℕ, _+_, _≤_, _<_}
+use native.Mathlib.Numerals.{lt-of-le-of-ne}
 use native.Mathlib.Omega.{arith}
 use borrow.Author.Tests.{ltb-false, eqb-true, eqb-false}
 use lib.ListN.{length}
@@ -11,7 +11,6 @@ use Rattle.laws.specs.Results.{Result}
 use Rattle.laws.proofs.Choice.{pick-ind}
 use Rattle.laws.proofs.Part.{part-length}
 use Rattle.laws.proofs.Filter.{filter-at}
-use Rattle.laws.proofs.Tests.{less-or-not}
 use Rattle.limits.specs.Limits.{planeLimit}
 use Rattle.answer.specs.declared.Answer.the-variants as answers
 use Rattle.entry.specs.declared.Entry.{Entry}
@@ -30,7 +29,7 @@ use Rattle.packet.proofs.FullPackets.{stream-means, means-packets}
 use Rattle.packer.specs.declared.told.Packed.{Packed}
 use Rattle.packer.specs.Packing.{packs}
 use Rattle.packer.proofs.WayBack.{pack-read}
-use Rattle.promises.specs.TableAndPlanes.{InOrder, EachRight, WholeFile, Meant, raw, packed, ReadsMeant, ReadsBack}
+use Rattle.promises.specs.TableAndPlanes.{InOrder, EachRight, WholeFile, Meant, raw, packed, MeantPlane, ReadsMeant, ReadsBack}
 
 -- ### The table
 
@@ -73,15 +72,8 @@ module _ (input : List ℕ) (start stored code : ℕ) (dest : List ℕ) where
       ∙ unpacked-bytes stream (length xs) xs dest (stream-means o) room
       ∙ ap (λ (n : ℕ). filled n (length xs) xs dest) (part-length input start stored there)
 
-  -- what an answer left
-  record Left (plane : ℕ) (r : Result Plane) : Type 0 where
-    bytes : List ℕ
-    meant : Meant code stream bytes
-    long : length bytes ≡ plane
-    leaves : r ≡ filled stored plane bytes dest
-
   abbrev IfGood : ℕ → Result Plane → Type 0
-  IfGood plane r = r .told .number ≡ 0 → Left plane r
+  IfGood plane r = r .told .number ≡ 0 → MeantPlane code stream stored plane dest r
 
   no : (plane number : ℕ) → 0 < number → IfGood plane (untouched number dest)
   no plane number some e = absurd (omega arith)
@@ -111,21 +103,13 @@ module _ (input : List ℕ) (start stored code : ℕ) (dest : List ℕ) where
       pick-ind I _ _ _ (λ one. unpacked-left plane (eqb-true code 1 one) all) (λ other.
       pick-ind I _ _ _
       (λ same e.
-      let none : code ≡ 0 = zero-only (ltb-false _ _ known) (eqb-false code 1 other) in
+      let none : code ≡ 0 = omega (arith, lt-of-le-of-ne (ltb-false _ _ known) (eqb-false code 1 other)) in
       record { bytes = stream; meant = raw none; long = all ∙ eqb-true stored plane same; leaves = refl })
       (λ _. no plane 25 (omega arith)))))))
-    where
-      zero-only : code ≤ 1 → (code ≡ 1 → ⊥) → code ≡ 0
-      zero-only low not-one = ⊎-elim (λ (h : code < 1). omega arith) (λ (h : 1 ≤ code). absurd (not-one (omega arith))) (less-or-not code 1)
 
   -- each plane is the bytes that its packets mean, and nothing else is read
   pub reads-meant : ReadsMeant input start stored code dest
-  reads-meant = record {
-    reads = reads;
-    only = λ plane e.
-        let l = read-left plane e in
-        record { bytes = l .bytes; meant = l .meant; long = l .long; leaves = l .leaves };
-  }
+  reads-meant = record { reads = reads; only = read-left }
 
 -- ### The way back
 

@@ -5,11 +5,13 @@ use mathlib.Core.List.{List}
 use Prim.Native.Nat.{ℕ, _+_, _≤_, _<_}
 use lib.ListN.{length, take, getD}
 use Rattle.laws.specs.Lists.{filter, part}
+use Rattle.laws.specs.Results.{Result}
 use Rattle.limits.specs.Limits.{planeLimit}
 use Rattle.entry.specs.declared.Entry.{Entry}
 use Rattle.walk.specs.Promised.{Tiles, OneOwner}
 use Rattle.headers.specs.FileHeader.{fileHeaderSize}
 use Rattle.listing.specs.Right.{Right, Headed, Accepted, isLayer, layersIn}
+use Rattle.packet.specs.declared.told.Plane.{Plane}
 use Rattle.packet.specs.FullPackets.{StreamOf}
 use Rattle.packet.specs.Reading.{filled, planeRead}
 use Rattle.packer.specs.Packing.{packs}
@@ -40,12 +42,12 @@ pub data Meant (code : ℕ) (stream : List ℕ) : List ℕ → Type 0 where
   raw : code ≡ 0 → Meant code stream stream
   packed : {xs : List ℕ} → code ≡ 1 → StreamOf stream xs → Meant code stream xs
 
--- a plane that was read: what the stored part means, so long, in front of the destination
-pub record MeantPlane (input : List ℕ) (start stored plane code : ℕ) (dest : List ℕ) : Type 0 where
+-- what was read is what the stored part means, so long, in front of the destination
+pub record MeantPlane (code : ℕ) (stream : List ℕ) (stored plane : ℕ) (dest : List ℕ) (r : Result Plane) : Type 0 where
   pub bytes : List ℕ
-  pub meant : Meant code (part input start stored) bytes
+  pub meant : Meant code stream bytes
   pub long : length bytes ≡ plane
-  pub leaves : planeRead input start stored plane code dest ≡ filled stored plane bytes dest
+  pub leaves : r ≡ filled stored plane bytes dest
 
 -- a stored part inside the input is read wherever it means a plane, and nothing else is
 pub record ReadsMeant (input : List ℕ) (start stored code : ℕ) (dest : List ℕ) : Type 0 where
@@ -53,7 +55,7 @@ pub record ReadsMeant (input : List ℕ) (start stored code : ℕ) (dest : List 
       (xs : List ℕ) → Meant code (part input start stored) xs → start + stored ≤ length input → length xs ≤ planeLimit → length xs ≤ length dest
       → planeRead input start stored (length xs) code dest ≡ filled stored (length xs) xs dest
   pub only :
-      (plane : ℕ) → planeRead input start stored plane code dest .told .number ≡ 0 → MeantPlane input start stored plane code dest
+      (plane : ℕ) → let r = planeRead input start stored plane code dest in r .told .number ≡ 0 → MeantPlane code (part input start stored) stored plane dest r
 
 -- ### The way back
 

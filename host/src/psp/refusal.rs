@@ -4,7 +4,7 @@ use super::ffi;
 use std::error::Error;
 use std::fmt::{self, Display, Formatter};
 
-/// The one table of names, of the header's constants and of document 01's words for them.
+/// The one table of names, of the header's constants and of its words for them.
 macro_rules! refusals {
     ($($name:ident, $constant:ident, $meaning:literal;)*) => {
         /// An answer of document 01 that is not 0, by its name in include/psp.h. A later version of
@@ -35,7 +35,7 @@ macro_rules! refusals {
                 }
             }
 
-            /// Document 01's words for it.
+            /// The header's words for it.
             pub fn meaning(self) -> &'static str {
                 match self {
                     $(Refusal::$name => $meaning,)*
@@ -47,35 +47,35 @@ macro_rules! refusals {
 }
 
 refusals! {
-    OverLimit, OVER_LIMIT, "input over the limit";
+    OverLimit, OVER_LIMIT, "too long an input";
     EndsTooSoon, ENDS_TOO_SOON, "ends too soon";
-    WrongSignature, WRONG_SIGNATURE, "signature wrong";
-    WrongVersion, WRONG_VERSION, "version not 3.0";
-    WrongMark, WRONG_MARK, "block mark is not 7E 42 4B 00";
-    WrongLength, WRONG_LENGTH, "length does not fit";
-    OutOfPlace, OUT_OF_PLACE, "known block out of place";
-    WrongField, WRONG_FIELD, "field value not permitted";
-    NotExpected, NOT_EXPECTED, "layer or channel not expected";
-    Missing, MISSING, "parent ended with layers or channels missing";
-    NotReadable, NOT_READABLE, "compression code 2";
+    WrongSignature, WRONG_SIGNATURE, "another signature";
+    WrongVersion, WRONG_VERSION, "another version";
+    WrongMark, WRONG_MARK, "another mark than a block's";
+    WrongLength, WRONG_LENGTH, "a length that cannot be";
+    OutOfPlace, OUT_OF_PLACE, "a known id where it may not stand";
+    WrongField, WRONG_FIELD, "a field outside its values";
+    NotExpected, NOT_EXPECTED, "one too many, or no such channel here";
+    Missing, MISSING, "a parent closes incomplete";
+    NotReadable, NOT_READABLE, "a compression that is not read";
     TableFull, TABLE_FULL, "table full";
     PlaneNoRoom, PLANE_NO_ROOM, "destination shorter than the plane";
-    PlaneCount128, PLANE_COUNT_128, "count 128";
+    PlaneCount128, PLANE_COUNT_128, "a packet's count is 128";
     PlaneDataMissing, PLANE_DATA_MISSING,
         "packet data missing, or the plane not full at the stream's end";
     PlaneTooMuch, PLANE_TOO_MUCH, "more than the plane has left";
     PlaneUnknownCode, PLANE_UNKNOWN_CODE, "code not 0 or 1";
-    PlaneRawLength, PLANE_RAW_LENGTH, "raw length differs from the plane length";
+    PlaneRawLength, PLANE_RAW_LENGTH, "a raw channel of another length than the plane";
     PlaneOverLimit, PLANE_OVER_LIMIT, "plane length over the limit";
-    PlaneOutside, PLANE_OUTSIDE, "stored part not inside the input";
+    PlaneOutside, PLANE_OUTSIDE, "a stored part outside the input";
     PackNoRoom, PACK_NO_ROOM, "destination shorter than the packed form";
     PackOverLimit, PACK_OVER_LIMIT, "plane over the limit";
-    CanvasWrong, CANVAS_WRONG, "canvas side not 1 to 4,096, or canvas length not their product";
-    RectWrong, RECT_WRONG, "rectangle breaks a coordinate, order or side rule";
-    PlaneWrong, PLANE_WRONG, "plane length not row times height";
+    CanvasWrong, CANVAS_WRONG, "no such canvas: its sides, or its length";
+    RectWrong, RECT_WRONG, "no such rectangle";
+    PlaneWrong, PLANE_WRONG, "a plane that is not the rectangle's";
     NoPalette, NO_PALETTE, "depth 24";
-    NoRamp, NO_RAMP, "grey, no palette listed, ramp not 1,024 bytes";
-    NoLayer, NO_LAYER, "no such layer";
+    NoRamp, NO_RAMP, "a ramp of another length than 1,024 would have to stand in";
+    NoLayer, NO_LAYER, "k is past the last layer";
 }
 
 /// A listing that was refused: why, at which place of the input, and how many entries were found
@@ -134,7 +134,7 @@ mod tests {
     }
 
     #[test]
-    fn names_and_numbers_are_those_of_the_header() {
+    fn names_numbers_and_words_are_those_of_the_header() {
         let header = include_str!("../../../include/psp.h");
         let answers = header
             .split("/* ---- ")
@@ -146,6 +146,8 @@ mod tests {
             let refusal = Refusal::of(words[1].parse().unwrap());
             let name = refusal.map_or("accepted".to_string(), |named| format!("{:?}", named));
             assert_eq!(words[0].replace('_', ""), name.to_uppercase());
+            let said = refusal.map(|named| format!("/* {} */", named.meaning()));
+            assert!(constant.ends_with(said.as_deref().unwrap_or("")));
             count += 1;
         }
         assert_eq!(count, 29);
@@ -175,6 +177,9 @@ mod tests {
             refusal: Refusal::PlaneCount128,
             place: 3,
         };
-        assert_eq!(plane.to_string(), "refused: 21 at 3, count 128");
+        assert_eq!(
+            plane.to_string(),
+            "refused: 21 at 3, a packet's count is 128"
+        );
     }
 }
