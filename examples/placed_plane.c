@@ -57,12 +57,12 @@ int main(int argc, char **argv) {
   if (read.number != PSP_ACCEPTED) return refused("plane", read.number, read.place);
   printf("plane of %u by %u pixels, %zu bytes\n", (unsigned)wanted->width, (unsigned)wanted->height, read.bytes);
 
-  /* Place it where the layer has it, on a black canvas of the image's size. */
+  /* Place it where the layer has it, on a black canvas of the image's size; the entry's row says whether rows are padded. */
   psp_rect saved = wanted->bitmap == USER_MASK ? layer.layer.mask.saved : layer.layer.image.saved;
   size_t pixels = (size_t)image.width * (size_t)image.height;
   uint8_t *canvas = calloc(pixels, 1);
   if (canvas == NULL) return stop("no memory");
-  uint32_t number = psp_place((uint32_t)image.width, (uint32_t)image.height, canvas, pixels, saved, plane, read.bytes);
+  uint32_t number = psp_place((uint32_t)image.width, (uint32_t)image.height, canvas, pixels, saved, plane, read.bytes, wanted->row);
   if (number != PSP_ACCEPTED) return stop("the plane cannot be placed");
   size_t lit = 0;
   for (size_t at = 0; at < pixels; at++) lit += canvas[at] != 0;

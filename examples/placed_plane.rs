@@ -41,7 +41,7 @@ fn run(file: &str, layer: &str, bitmap: &str, channel: &str) -> Result<(), Box<d
         USER_MASK => layer.mask.saved,
         _ => layer.image.saved,
     };
-    place(image, saved, &plane)
+    place(image, saved, &plane, wanted.row)
 }
 
 /// Lists the file. The count says how much room the entries need; a refused listing has one too.
@@ -89,11 +89,12 @@ fn plane(input: &[u8], wanted: &Entry, compression: u16) -> Result<Vec<u8>, Stri
     Ok(plane)
 }
 
-/// Places a plane where its layer has it, on a black canvas of the image's size.
-fn place(image: ImageChunk, saved: Rect, plane: &[u8]) -> Result<(), Box<dyn Error>> {
+/// Places a plane where its layer has it, on a black canvas of the image's size; the entry's row
+/// says whether rows are padded.
+fn place(image: ImageChunk, saved: Rect, plane: &[u8], row: u32) -> Result<(), Box<dyn Error>> {
     let [width, height] = [image.width, image.height].map(i32::unsigned_abs);
     let mut canvas = vec![0; width as usize * height as usize];
-    let placed = psp::place(width, height, &mut canvas, saved, plane);
+    let placed = psp::place(width, height, &mut canvas, saved, plane, row);
     placed.map_err(|refusal| format!("the plane cannot be placed: {}", refusal))?;
     let lit = canvas.iter().filter(|&&pixel| pixel != 0).count();
     println!(

@@ -24,7 +24,7 @@ extern "C" {
 /* ---- Version ---- */
 
 #define PSP_VERSION_MAJOR 0
-#define PSP_VERSION_MINOR 2
+#define PSP_VERSION_MINOR 3
 #define PSP_VERSION_PATCH 0
 #define PSP_VERSION (PSP_VERSION_MAJOR * 10000 + PSP_VERSION_MINOR * 100 + PSP_VERSION_PATCH)
 
@@ -67,7 +67,7 @@ uint32_t psp_version(void);
 /* Placing a plane on a canvas. */
 #define PSP_CANVAS_WRONG 40  /* no such canvas: its sides, or its length */
 #define PSP_RECT_WRONG 41    /* no such rectangle */
-#define PSP_PLANE_WRONG 42   /* a plane that is not the rectangle's */
+#define PSP_PLANE_WRONG 42   /* a row or a plane that is not the rectangle's */
 
 /* Views. */
 #define PSP_NO_PALETTE 43  /* depth 24 */
@@ -80,7 +80,7 @@ uint32_t psp_version(void);
 #define PSP_PLANE_LIMIT 16777216  /* bytes of a plane */
 #define PSP_SIDE_LIMIT 4096       /* image sides, and sides of a saved rectangle */
 #define PSP_LAYER_LIMIT 64        /* layers of an image */
-#define PSP_ENTRY_NUMBERS 13      /* numbers of an entry in a table */
+#define PSP_ENTRY_NUMBERS 14      /* numbers of an entry in a table */
 
 /* ---- Listing ---- */
 
@@ -98,7 +98,8 @@ typedef struct psp_entry {
   uint32_t stored;   /* stored length */
   uint32_t width;    /* of the plane, in pixels */
   uint32_t height;   /* of the plane, in rows */
-  uint32_t plane;    /* plane length in bytes, rows padded to 4 */
+  uint32_t plane;    /* plane length in bytes: row times height */
+  uint32_t row;      /* bytes of a row: padded to 4, or the width itself */
 } psp_entry;
 
 typedef struct psp_listed {
@@ -107,7 +108,7 @@ typedef struct psp_listed {
   size_t count;     /* entries listed, also when refused */
 } psp_listed;
 
-/* Lists an input into a table of 32-bit numbers, thirteen an entry (0 to 12): count entries stand in front, refused or not, and nothing
+/* Lists an input into a table of 32-bit numbers, fourteen an entry (0 to 12): count entries stand in front, refused or not, and nothing
  * behind them changes. Numbers that make no whole entry are no room. */
 psp_listed psp_list(const uint8_t *input, size_t length, uint32_t *table, size_t numbers);
 
@@ -155,9 +156,11 @@ typedef struct psp_rect {
   int32_t bottom;
 } psp_rect;
 
-/* Places an 8-bit plane of rectangle r on a canvas of one byte a pixel (0, 40, 41, 42): each canvas pixel inside r takes its byte, row
- * padding and outside pixels take no part. The other pixels are untouched, and the whole canvas when refused. */
-uint32_t psp_place(uint32_t width, uint32_t height, uint8_t *canvas, size_t pixels, psp_rect r, const uint8_t *plane, size_t length);
+/* Places an 8-bit plane of rectangle r on a canvas of one byte a pixel (0, 40, 41, 42): each canvas pixel inside r takes its byte,
+ * and of padding or of pixels off the canvas nothing is taken. A row has row bytes, as the entry says: r's width, or that padded to 4. The
+ * other pixels are untouched, and the whole canvas when refused. */
+uint32_t psp_place(uint32_t width, uint32_t height, uint8_t *canvas, size_t pixels, psp_rect r, const uint8_t *plane, size_t length,
+                   uint32_t row);
 
 /* Gives the pixels that two rectangles share, and 0,0,0,0 where there are none. */
 psp_rect psp_intersect(psp_rect a, psp_rect b);

@@ -55,7 +55,7 @@ pub fn with_empty_blocks(among: Among, length: usize) -> (Vec<u8>, usize) {
     (file, count)
 }
 
-/// Bytes of an 8-bit plane with equal sides.
+/// Bytes of an 8-bit plane with equal sides and padded rows.
 pub fn plane_length(side: u32) -> u32 {
     (side + 3) / 4 * 4 * side
 }

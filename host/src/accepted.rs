@@ -42,8 +42,8 @@ impl Input {
     }
 
     /// The refusal of its listing.
-    pub fn refused(&self, answer: &Listed) -> Failure {
-        refused(answer, &self.bytes, self.size)
+    pub fn refused(&self, answer: &Listed, table: &[u32]) -> Failure {
+        refused(answer, table, &self.bytes, self.size)
     }
 }
 
@@ -81,11 +81,12 @@ pub fn list(input: &[u8]) -> Result<(Listed, Vec<u32>), Failure> {
     Ok((answer, table))
 }
 
-/// The refusal of a listing, with what the input has at its place.
-pub fn refused(answer: &Listed, input: &[u8], size: Option<u64>) -> Failure {
+/// The refusal of a listing, with what the input has at its place, and the table has before it.
+pub fn refused(answer: &Listed, table: &[u32], input: &[u8], size: Option<u64>) -> Failure {
     let refused = Refused {
         number: answer.number,
         place: answer.place,
+        table,
         input,
         size,
     };
@@ -104,7 +105,7 @@ impl Accepted {
         let input = Input::read(file)?;
         let (answer, table) = list(&input.bytes)?;
         if answer.number != ACCEPTED {
-            return Err(input.refused(&answer));
+            return Err(input.refused(&answer, &table));
         }
         Ok(Accepted::listed(input, &table))
     }

@@ -1,15 +1,19 @@
 //! Refusals in words: what was found, and what to do next.
 
-use crate::fields::{self, Block, MARK};
+use crate::fields::{self, Block, HEADER, MARK};
+use crate::lines;
 use crate::name;
 use crate::psp::ffi::*;
+use crate::shape;
+use crate::words::counted;
 
-/// A listing's refusal: its number and place, the input as far as it was read, and the size of the
-/// file where that is known.
+/// A listing's refusal: its number and place, the table of what was found before it, the input as
+/// far as it was read, and the size of the file where that is known.
 #[derive(Clone, Copy)]
 pub struct Refused<'a> {
     pub number: u32,
     pub place: usize,
+    pub table: &'a [u32],
     pub input: &'a [u8],
     pub size: Option<u64>,
 }
@@ -141,10 +145,16 @@ impl Refused<'_> {
         }
     }
 
-    /// The field is not named yet; where the kind of block has a known reason, that is told.
+    /// Only a plane length is named yet; where the kind of block has a known reason, that is told.
     fn wrong_field(&self) -> (String, &'static str) {
-        let place = self.place.checked_sub(14);
-        let block = place.and_then(|place| fields::block(self.input, place));
+        let header = self.place.checked_sub(HEADER);
+        let block = header.and_then(|place| fields::block(self.input, place));
+        let length = header.and_then(|place| self.wrong_plane_length(block?, place));
+        if let Some(found) = length {
+            let next = "often it is a bitmap's size in memory, \
+                        and such files are not read yet (docs/FIELD.md)";
+            return (found, next);
+        }
         let found = format!(
             "a field of {} has a value that is not permitted",
             named(block)
@@ -154,20 +164,61 @@ impl Refused<'_> {
                 "often a saved rectangle is counted from its border's corner, \
                  and such files are not read yet (docs/FIELD.md)"
             }
-            Some(5) => {
-                "often the plane length is a bitmap's size in memory, or rows are not padded, \
-                 and such files are not read yet (docs/FIELD.md)"
-            }
             _ => "open it in Paint Shop Pro and save it again in format 3.0",
         };
         (found, next)
     }
 
+    /// A channel's plane length, and those that are permitted. None where it is not at fault: the
+    /// codes are judged first.
+    fn wrong_plane_length(&self, block: Block, header: usize) -> Option<String> {
+        let channel = fields::channel(self.input, header).filter(|_| block.id == 5)?;
+        if channel.bitmap > 5 || channel.channel > 3 {
+            return None;
+        }
+        let (image, layer) = self.found()?;
+        let bitmap = u32::from(channel.bitmap);
+        let bits = shape::bits(&image, bitmap);
+        let [_, _, width, height] = shape::sides(&shape::saved(&layer, bitmap));
+        let permitted = match shape::lengths(width, height, bits) {
+            (padded, Some(short)) => {
+                format!("{} bytes with padded rows or {} without", padded, short)
+            }
+            (padded, None) if bits < 8 => {
+                let why = "with padded rows, the only ones below 8 bits";
+                format!("{} bytes {}", padded, why)
+            }
+            (length, None) => format!("{} bytes", length),
+        };
+        Some(format!(
+            "the plane length of {} is {}, and {} by {} pixels of {} take {}",
+            named(Some(block)),
+            channel.plane,
+            width,
+            height,
+            counted(bits.into(), "bit"),
+            permitted
+        ))
+    }
+
+    /// The image, and the last layer before the place.
+    fn found(&self) -> Option<(ImageChunk, LayerChunk)> {
+        let known = |id| {
+            let is_it = move |entry: &Entry| entry.skipped == 0 && entry.id == id;
+            lines::entries(self.table).filter(is_it)
+        };
+        let image = fields::image(self.input, &known(0).next()?)?;
+        let layer = fields::layer(self.input, &known(4).last()?)?;
+        Some((image, layer))
+    }
+
     fn not_expected(&self) -> String {
         let is_channel = self.header().map(|block| block.id) == Some(5);
-        let codes = fields::channel(self.input, self.place).filter(|_| is_channel);
-        let codes =
-            codes.map(|(bitmap, channel)| format!(", bitmap {} channel {},", bitmap, channel));
+        let channel = fields::channel(self.input, self.place).filter(|_| is_channel);
+        let codes = channel.map(|channel| {
+            let (bitmap, code) = (channel.bitmap, channel.channel);
+            format!(", bitmap {} channel {},", bitmap, code)
+        });
         let why = if is_channel {
             "its layer has it already, has all its channels, or cannot have it"
         } else {
@@ -258,8 +309,9 @@ fn of_view(number: u32) -> (&'static str, &'static str) {
             "give it one that a listing has passed",
         ),
         PLANE_WRONG => (
-            "the plane is not as long as its rectangle wants",
-            "give the whole plane",
+            "the row is neither the rectangle's width nor that padded to 4, \
+             or the plane is not row times height",
+            "give the whole plane and the entry's row",
         ),
         NO_PALETTE => (
             "an image of depth 24 has no palette",
@@ -307,6 +359,7 @@ mod tests {
         let refused = Refused {
             number,
             place,
+            table: &[],
             input,
             size: Some(input.len() as u64),
         };
@@ -350,6 +403,7 @@ mod tests {
         let mut over = Refused {
             number: 1,
             place: 0,
+            table: &[],
             input: &[],
             size: Some(70_000_000),
         };
@@ -429,13 +483,79 @@ mod tests {
             &["a layer block", "often a saved"],
         );
         holds(
-            &refused(8, 50, &with_block(5)),
-            &["a channel block", "often the plane"],
-        );
-        holds(
             &refused(8, 50, &with_block(0)),
             &["an image block", "save it again"],
         );
+    }
+
+    /// A channel that is refused by 8, of an image of this depth and a layer whose saved rectangles
+    /// have 9 by 3 and 5 by 1 pixels.
+    fn refused_channel(depth: u8, [bitmap, channel, plane]: [u8; 3]) -> String {
+        let mut input = with_block(0);
+        input.resize(88 + 389, 0);
+        input[50 + 19] = depth;
+        for (field, byte) in [(281, 9), (285, 3), (318, 5), (322, 1)] {
+            input[88 + HEADER + field] = byte;
+        }
+        input.extend_from_slice(&with_block(5)[36..]);
+        for (field, byte) in [
+            (4, plane),
+            (5, 0),
+            (6, 0),
+            (7, 0),
+            (8, bitmap),
+            (10, channel),
+        ] {
+            input[477 + HEADER + field] = byte;
+        }
+        let mut table = [0; 2 * ENTRY_NUMBERS];
+        table[..5].copy_from_slice(&[0, 0, 0, 36, 52]);
+        table[ENTRY_NUMBERS..][..5].copy_from_slice(&[4, 0, 1, 88, 389]);
+        let refused = Refused {
+            number: WRONG_FIELD,
+            place: 477 + HEADER,
+            table: &table,
+            input: &input,
+            size: None,
+        };
+        refused.sentence()
+    }
+
+    #[test]
+    fn a_plane_length_is_told_with_those_that_are_permitted() {
+        for depth in [8, 24] {
+            let sentence = refused_channel(depth, [0, 0, 35]);
+            let lengths = "9 by 3 pixels of 8 bits take 36 bytes with padded rows or 27 without; ";
+            let found = "the plane length of a channel block (id 5) is 35, and ";
+            holds(&sentence, &[found, lengths, "a bitmap's size in memory"]);
+        }
+        let lengths = "5 by 1 pixels of 8 bits take 8 bytes with padded rows or 5 without; ";
+        holds(&refused_channel(1, [2, 0, 27]), &["is 27, and ", lengths]);
+    }
+
+    #[test]
+    fn below_8_bits_one_plane_length_is_permitted() {
+        let why = "with padded rows, the only ones below 8 bits; ";
+        let four = refused_channel(4, [0, 0, 27]);
+        holds(
+            &four,
+            &["is 27, and 9 by 3 pixels of 4 bits take 24 bytes ", why],
+        );
+        let one = refused_channel(1, [0, 0, 6]);
+        holds(
+            &one,
+            &["is 6, and 9 by 3 pixels of 1 bit take 12 bytes ", why],
+        );
+    }
+
+    #[test]
+    fn codes_are_at_fault_before_a_plane_length() {
+        for codes in [[6, 0, 35], [0, 4, 35]] {
+            let sentence = refused_channel(8, codes);
+            holds(&sentence, &["a field of a channel block", "save it again"]);
+        }
+        let unlisted = refused(8, 50, &with_block(5));
+        holds(&unlisted, &["a field of a channel block", "save it again"]);
     }
 
     #[test]

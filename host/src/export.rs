@@ -3,9 +3,9 @@
 use crate::accepted::Accepted;
 use crate::arguments::Arguments;
 use crate::failure::Failure;
-use crate::layers::sides;
 use crate::name;
 use crate::output;
+use crate::shape::sides;
 use crate::table::{self, Besides, Layer};
 use std::ffi::OsStr;
 use std::io::Write;

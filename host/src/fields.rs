@@ -4,7 +4,7 @@
 use crate::psp::ffi::{Area, Entry, ImageChunk, LayerChunk, Rect, Resolution};
 
 /// Bytes of a block header.
-const HEADER: usize = 14;
+pub const HEADER: usize = 14;
 
 /// The mark that each block header begins with.
 pub const MARK: [u8; 4] = *b"~BK\0";
@@ -16,6 +16,14 @@ pub struct Block {
     pub id: u16,
     pub initial: u32,
     pub total: u32,
+}
+
+/// What the chunk of a channel says of its plane.
+#[derive(Clone, Copy, Debug, PartialEq, Eq)]
+pub struct Channel {
+    pub plane: u32,
+    pub bitmap: u16,
+    pub channel: u16,
 }
 
 /// Major and minor version, behind the signature.
@@ -35,10 +43,15 @@ pub fn block(input: &[u8], place: usize) -> Option<Block> {
     })
 }
 
-/// Bitmap and channel of the channel whose header stands at a place.
-pub fn channel(input: &[u8], place: usize) -> Option<(u16, u16)> {
-    let mut fields = Fields::at(input, place.checked_add(HEADER + 8)?)?;
-    Some((fields.word()?, fields.word()?))
+/// Plane length and codes of the channel whose header stands at a place.
+pub fn channel(input: &[u8], place: usize) -> Option<Channel> {
+    // Behind the stored length.
+    let mut fields = Fields::at(input, place.checked_add(HEADER + 4)?)?;
+    Some(Channel {
+        plane: fields.double_word()?,
+        bitmap: fields.word()?,
+        channel: fields.word()?,
+    })
 }
 
 /// The chunk of the image block, an entry of a listing.
@@ -254,11 +267,17 @@ mod tests {
         input[34] = 1;
         assert_eq!(version(&input), Some((5, 1)));
         assert_eq!(version(&input[..35]), None);
-        input.extend_from_slice(b"~BK\0\x05\0\x0C\0\0\0\x10\x01\0\0........\x02\0\x03\0");
+        input.extend_from_slice(b"~BK\0\x05\0\x0C\0\0\0\x10\x01\0\0....\x05\x06\0\0\x02\0\x03\0");
         let block_of = block(&input, 36).expect("a header");
         assert_eq!((block_of.mark, block_of.id), (MARK, 5));
         assert_eq!((block_of.initial, block_of.total), (12, 272));
-        assert_eq!(channel(&input, 36), Some((2, 3)));
+        let channel_of = Channel {
+            plane: 0x605,
+            bitmap: 2,
+            channel: 3,
+        };
+        assert_eq!(channel(&input, 36), Some(channel_of));
+        assert_eq!(channel(&input[..61], 36), None);
         assert_eq!(block(&input[..49], 36), None);
         assert_eq!(block(&input, usize::MAX), None);
         assert_eq!(channel(&input, usize::MAX), None);

@@ -180,8 +180,8 @@ impl Listing {
         match self.answer.number {
             ACCEPTED => Ok(()),
             _ => {
-                let size = Some(file.size());
-                Err(accepted::refused(&self.answer, &file.bytes, size))
+                let (table, size) = (&self.printed, Some(file.size()));
+                Err(accepted::refused(&self.answer, table, &file.bytes, size))
             }
         }
     }

@@ -40,7 +40,7 @@ impl Found {
             layers: Vec::new(),
             refusal: Some(Refusal {
                 answer,
-                failure: input.refused(&answer),
+                failure: input.refused(&answer, &table),
             }),
         };
         for entry in lines::entries(&table) {

@@ -209,13 +209,14 @@ mod tests {
 
     #[test]
     fn entries_stand_up_to_the_first_that_differs() {
-        let printed: Vec<u32> = (0..39).collect();
-        assert_eq!(standing(&printed, &printed), 39);
-        assert_eq!(standing(&printed, &printed[..26]), 26);
-        assert_eq!(standing(&printed[..13], &printed), 13);
+        const TWO: usize = 2 * ENTRY_NUMBERS;
+        let printed: Vec<u32> = (0..42).collect();
+        assert_eq!(standing(&printed, &printed), 3 * ENTRY_NUMBERS);
+        assert_eq!(standing(&printed, &printed[..TWO]), TWO);
+        assert_eq!(standing(&printed[..TWO], &printed), TWO);
         let mut listed = printed.clone();
-        listed[20] = 99;
-        assert_eq!(standing(&printed, &listed), 13);
+        listed[TWO - 1] = 99;
+        assert_eq!(standing(&printed, &listed), ENTRY_NUMBERS);
         assert_eq!(standing(&[], &listed), 0);
     }
 

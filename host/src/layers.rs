@@ -7,7 +7,7 @@ use crate::failure::Failure;
 use crate::found::Found;
 use crate::name;
 use crate::output;
-use crate::psp::ffi::Rect;
+use crate::shape::sides;
 use std::ffi::OsString;
 use std::io::Write;
 
@@ -71,10 +71,4 @@ fn table(found: &Found, border: bool) -> Columns {
         table.row(row);
     }
     table
-}
-
-/// Left, top, width, height.
-pub fn sides(r: &Rect) -> [i64; 4] {
-    let [left, top, right, bottom] = [r.left, r.top, r.right, r.bottom].map(i64::from);
-    [left, top, right - left, bottom - top]
 }

@@ -15,7 +15,7 @@ pub fn entry_line(index: usize, entry: &Entry) -> String {
     let e = entry;
     let [start, stored] = [e.start, e.stored];
     let plane = [
-        e.layer, e.bitmap, e.channel, start, stored, e.width, e.height, e.plane,
+        e.layer, e.bitmap, e.channel, start, stored, e.width, e.height, e.plane, e.row,
     ];
     let content = [start, stored, e.id];
     let (kind, own) = match e.id {
@@ -34,7 +34,7 @@ pub fn entry_line(index: usize, entry: &Entry) -> String {
     line
 }
 
-/// The entries of a table, thirteen numbers each; numbers too few for an entry are left out.
+/// The entries of a table, fourteen numbers each; numbers too few for an entry are left out.
 pub fn entries(table: &[u32]) -> impl Iterator<Item = Entry> + '_ {
     table.chunks_exact(ENTRY_NUMBERS).filter_map(entry)
 }
@@ -55,6 +55,7 @@ fn entry(numbers: &[u32]) -> Option<Entry> {
         width: n[10],
         height: n[11],
         plane: n[12],
+        row: n[13],
     })
 }
 
@@ -66,7 +67,7 @@ mod tests {
         entries(table).next().expect("one entry")
     }
 
-    /// Document 01's worked listing.
+    /// Document 01's worked listing, each channel with its row.
     #[test]
     fn lines_are_those_of_document_01() {
         let answer = Listed {
@@ -75,29 +76,36 @@ mod tests {
             count: 4,
         };
         assert_eq!(answer_line(&answer), "answer 0 place 521 entries 4");
-        let image = only(&[0, 0, 0, 36, 52, 0, 0, 0, 0, 0, 0, 0, 0]);
+        let image = only(&[0, 0, 0, 36, 52, 0, 0, 0, 0, 0, 0, 0, 0, 0]);
         assert_eq!(entry_line(0, &image), "0 image 0 36 52");
-        let bank = only(&[3, 0, 0, 88, 14, 0, 0, 0, 0, 0, 0, 0, 0]);
+        let bank = only(&[3, 0, 0, 88, 14, 0, 0, 0, 0, 0, 0, 0, 0, 0]);
         assert_eq!(entry_line(1, &bank), "1 bank 0 88 14");
-        let layer = only(&[4, 0, 1, 102, 389, 0, 0, 0, 0, 0, 0, 0, 0]);
+        let layer = only(&[4, 0, 1, 102, 389, 0, 0, 0, 0, 0, 0, 0, 0, 0]);
         assert_eq!(entry_line(2, &layer), "2 layer 1 102 389 0");
-        let channel = only(&[5, 0, 2, 491, 30, 0, 0, 0, 517, 4, 1, 1, 4]);
+        let channel = only(&[5, 0, 2, 491, 30, 0, 0, 0, 517, 4, 1, 1, 4, 4]);
         assert_eq!(
             entry_line(3, &channel),
-            "3 channel 2 491 30 0 0 0 517 4 1 1 4"
+            "3 channel 2 491 30 0 0 0 517 4 1 1 4 4"
         );
     }
 
     #[test]
+    fn a_channel_ends_with_its_row() {
+        let channel = only(&[5, 0, 2, 564, 47, 3, 1, 0, 590, 21, 7, 3, 21, 7]);
+        let line = "5 channel 2 564 47 3 1 0 590 21 7 3 21 7";
+        assert_eq!(entry_line(5, &channel), line);
+    }
+
+    #[test]
     fn palette_and_skip_show_their_content() {
-        let palette = only(&[2, 0, 0, 88, 34, 0, 0, 0, 106, 16, 0, 0, 0]);
+        let palette = only(&[2, 0, 0, 88, 34, 0, 0, 0, 106, 16, 0, 0, 0, 0]);
         assert_eq!(entry_line(1, &palette), "1 palette 0 88 34 106 16");
-        let skip = only(&[9, 1, 0, 88, 19, 0, 0, 0, 102, 5, 0, 0, 0]);
+        let skip = only(&[9, 1, 0, 88, 19, 0, 0, 0, 102, 5, 0, 0, 0, 0]);
         assert_eq!(entry_line(1, &skip), "1 skip 0 88 19 102 5 9");
     }
 
     #[test]
     fn numbers_too_few_for_an_entry_are_left_out() {
-        assert_eq!(entries(&[0; 38]).count(), 2);
+        assert_eq!(entries(&[0; 3 * ENTRY_NUMBERS - 1]).count(), 2);
     }
 }

@@ -15,7 +15,8 @@ psp list FILE
 Lists the blocks of a file in file order. The first line has answer number, place and count; each
 line behind it is an entry: index, kind, level, place, bytes owned, and then
   layer           its number
-  channel         layer, bitmap, channel, content start, stored length, width, height, plane length
+  channel         layer, bitmap, channel, content start, stored length, width, height, plane
+                  length, bytes of a row
   palette, skip   content start, stored length; a skip ends with its id
 Of a refused file, the entries found before the place are listed.
 ";
@@ -32,6 +33,6 @@ pub fn run(words: &[OsString]) -> Result<(), Failure> {
     out.flush()?;
     match answer.number {
         ACCEPTED => Ok(()),
-        _ => Err(input.refused(&answer)),
+        _ => Err(input.refused(&answer, &table)),
     }
 }

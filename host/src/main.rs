@@ -30,6 +30,7 @@ mod number;
 mod output;
 mod palette;
 mod plane;
+mod shape;
 mod table;
 mod typed;
 mod wanted;
@@ -67,7 +68,7 @@ it is refused, differs or lacks what was asked for, 2 for wrong use or a file th
 written.
 ";
 
-const VERSION: &str = "0.2.0";
+const VERSION: &str = "0.3.0";
 
 struct Command {
     help: &'static str,

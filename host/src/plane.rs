@@ -7,8 +7,9 @@ use crate::destination;
 use crate::failure::Failure;
 use crate::psp::ffi::{ImageChunk, ACCEPTED};
 use crate::psp::{self, Entry};
+use crate::shape;
 use crate::wanted::{self, Number};
-use crate::widen;
+use crate::widen::{self, Plane};
 use std::ffi::OsString;
 
 pub const HELP: &str = "\
@@ -18,8 +19,9 @@ Reads one plane, places it on a black canvas of the image's size and writes a bi
 a pixel; -o - writes it to standard output. LAYER counts from 0, the bottom layer. BITMAP is 0 the
 image, 1 the transparency mask, 2 the user mask. CHANNEL is 0 for masks and below depth 24, and 1
 red, 2 green, 3 blue at depth 24. Pixels of a paletted image are palette indices. The greatest
-value (maxval) is 1 for an image bitmap of depth 1, 15 at depth 4, and otherwise 255. OUT.pgm is
-written beside its place and renamed when it is complete, so a file that stood there survives a
+value (maxval) is 1 for an image bitmap of depth 1, 15 at depth 4, and otherwise 255. Rows of
+8-bit pixels may be padded or not: the plane's length tells, and nothing has to be chosen. OUT.pgm
+is written beside its place and renamed when it is complete, so a file that stood there survives a
 failure; FILE is never written over, but of a pipe nobody can tell which file it comes from.
 ";
 
@@ -57,10 +59,7 @@ fn channel_of<'a>(
 /// The PGM of a channel.
 fn picture(file: &Accepted, entry: &Entry) -> Result<Vec<u8>, Failure> {
     let image = file.image()?;
-    let bits = match image.depth {
-        depth if entry.bitmap == 0 && depth < 8 => depth,
-        _ => 8,
-    };
+    let bits = shape::bits(&image, entry.bitmap);
     let plane = plane(file, entry, &image, bits)?;
     let canvas = canvas(file, entry, &image, &plane)?;
     let greatest = (1u32 << bits) - 1;
@@ -70,20 +69,9 @@ fn picture(file: &Accepted, entry: &Entry) -> Result<Vec<u8>, Failure> {
 }
 
 /// The plane at one byte a pixel.
-fn plane(
-    file: &Accepted,
-    entry: &Entry,
-    image: &ImageChunk,
-    bits: u16,
-) -> Result<Vec<u8>, Failure> {
-    let [start, stored, length, width, height] = [
-        entry.start,
-        entry.stored,
-        entry.plane,
-        entry.width,
-        entry.height,
-    ]
-    .map(|number| number as usize);
+fn plane(file: &Accepted, entry: &Entry, image: &ImageChunk, bits: u16) -> Result<Plane, Failure> {
+    let [start, stored, length] =
+        [entry.start, entry.stored, entry.plane].map(|number| number as usize);
     let mut plane = accepted::zeros(length)?;
     let code = u32::from(image.compression);
     let answer = psp::read_plane(&file.bytes, start, stored, length, code, &mut plane);
@@ -91,10 +79,7 @@ fn plane(
         let sentence = answer::refusal_inside(answer.number, answer.place, start);
         return Err(Failure::Refused(sentence));
     }
-    if bits == 8 {
-        return Ok(plane);
-    }
-    let wide = widen::widen(&plane, width, height, usize::from(bits));
+    let wide = widen::widen(plane, entry.row, entry.width, bits);
     wide.ok_or_else(|| Failure::Unreadable("no memory for the plane".to_string()))
 }
 
@@ -103,16 +88,11 @@ fn canvas(
     file: &Accepted,
     entry: &Entry,
     image: &ImageChunk,
-    plane: &[u8],
+    plane: &Plane,
 ) -> Result<Vec<u8>, Failure> {
-    let layer = file.layer(entry.layer)?;
-    let area = if entry.bitmap == 2 {
-        layer.mask
-    } else {
-        layer.image
-    };
+    let saved = shape::saved(&file.layer(entry.layer)?, entry.bitmap);
     let [width, height] = [image.width, image.height].map(i32::unsigned_abs);
     let mut canvas = accepted::zeros(width as usize * height as usize)?;
-    let number = psp::place(width, height, &mut canvas, area.saved, plane);
+    let number = psp::place(width, height, &mut canvas, saved, &plane.bytes, plane.row);
     accepted::good(number, canvas)
 }

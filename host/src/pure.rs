@@ -23,6 +23,7 @@ mod lines;
 mod mutated;
 mod name;
 mod number;
+mod shape;
 mod table;
 mod typed;
 mod wanted;

@@ -1,32 +1,41 @@
-//! Planes of 1 and 4 bits a pixel as planes of one byte a pixel.
+//! Planes of 1 and 4 bits a pixel as planes of one byte a pixel, which placing takes.
 
-/// Bytes of a row: whole groups of 32 bits.
-pub fn row(width: usize, bits: usize) -> Option<usize> {
-    let groups = width.checked_mul(bits)?.checked_add(31)? / 32;
-    groups.checked_mul(4)
+/// A plane of one byte a pixel, and how many bytes a row of it has.
+#[derive(Debug, PartialEq, Eq)]
+pub struct Plane {
+    pub bytes: Vec<u8>,
+    pub row: u32,
 }
 
-/// The same pixels at one byte each, rows padded by zeros; none if the plane is no such plane or
-/// bits is not 1, 4 or 8. The first pixel of a byte stands in its most significant bits.
-pub fn widen(plane: &[u8], width: usize, height: usize, bits: usize) -> Option<Vec<u8>> {
-    if !matches!(bits, 1 | 4 | 8) {
+/// The same pixels at one byte each. A plane that has them so stays as it is, padded or not; spread
+/// pixels have no padding. None if a row is too short for its pixels, the plane has a part of a row,
+/// bits is not 1, 4 or 8, or memory has no room.
+pub fn widen(plane: Vec<u8>, row: u32, width: u32, bits: u16) -> Option<Plane> {
+    match bits {
+        8 => Some(Plane { bytes: plane, row }),
+        1 | 4 => {
+            let [row, pixels, bits] = [row, width, u32::from(bits)].map(|number| number as usize);
+            let bytes = spread(&plane, row, pixels, bits)?;
+            Some(Plane { bytes, row: width })
+        }
+        _ => None,
+    }
+}
+
+/// The first pixel of a byte stands in its most significant bits.
+fn spread(plane: &[u8], row: usize, width: usize, bits: usize) -> Option<Vec<u8>> {
+    // Chunks of 0 bytes do not exist; of a plane of width 0 nothing is taken.
+    let lines = plane.chunks_exact(row.max(1));
+    if row.checked_mul(8 / bits)? < width || !lines.remainder().is_empty() {
         return None;
     }
-    let (narrow, wide) = (row(width, bits)?, row(width, 8)?);
-    if plane.len() != narrow.checked_mul(height)? {
-        return None;
+    let mut bytes = Vec::new();
+    let length = width.checked_mul(lines.len())?;
+    bytes.try_reserve_exact(length).ok()?;
+    for line in lines {
+        bytes.extend(pixels(line, bits).take(width));
     }
-    let mut widened = Vec::new();
-    widened.try_reserve_exact(wide.checked_mul(height)?).ok()?;
-    // A plane without pixels has no rows to take: chunks of 0 bytes do not exist.
-    if narrow == 0 {
-        return Some(widened);
-    }
-    for line in plane.chunks_exact(narrow) {
-        widened.extend(pixels(line, bits).take(width));
-        widened.resize(widened.len() + (wide - width), 0);
-    }
-    Some(widened)
+    Some(bytes)
 }
 
 fn pixels(line: &[u8], bits: usize) -> impl Iterator<Item = u8> + '_ {
@@ -40,38 +49,36 @@ fn pixels(line: &[u8], bits: usize) -> impl Iterator<Item = u8> + '_ {
 mod tests {
     use super::*;
 
-    #[test]
-    fn rows_are_whole_groups_of_32_bits() {
-        assert_eq!(row(32, 1), Some(4));
-        assert_eq!(row(33, 1), Some(8));
-        assert_eq!(row(9, 4), Some(8));
-        assert_eq!(row(0, 8), Some(0));
-        assert_eq!(row(usize::MAX, 8), None);
+    fn plane(bytes: &[u8], row: u32) -> Option<Plane> {
+        let bytes = bytes.to_vec();
+        Some(Plane { bytes, row })
     }
 
     #[test]
     fn the_first_pixel_is_the_most_significant() {
-        let one = widen(&[0b1010_0000, 0, 0, 0], 5, 1, 1);
-        assert_eq!(one, Some(vec![1, 0, 1, 0, 0, 0, 0, 0]));
-        let four = widen(&[0x12, 0x30, 0, 0, 0xF0, 0xE0, 9, 9], 3, 2, 4);
-        assert_eq!(four, Some(vec![1, 2, 3, 0, 15, 0, 14, 0]));
+        let one = widen(vec![0b1010_0000, 0, 0, 0], 4, 5, 1);
+        assert_eq!(one, plane(&[1, 0, 1, 0, 0], 5));
+        let four = widen(vec![0x12, 0x30, 0, 0, 0xF0, 0xE0, 9, 9], 4, 3, 4);
+        assert_eq!(four, plane(&[1, 2, 3, 15, 0, 14], 3));
     }
 
     #[test]
-    fn eight_bits_keep_their_pixels() {
-        assert_eq!(widen(&[7, 8, 9, 5], 3, 1, 8), Some(vec![7, 8, 9, 0]));
+    fn eight_bits_stay_padded_or_not() {
+        assert_eq!(widen(vec![7, 8, 9, 5], 4, 3, 8), plane(&[7, 8, 9, 5], 4));
+        assert_eq!(widen(vec![7, 8, 9], 3, 3, 8), plane(&[7, 8, 9], 3));
     }
 
     #[test]
-    fn a_plane_of_another_length_is_none() {
-        assert_eq!(widen(&[0; 5], 3, 1, 4), None);
-        assert_eq!(widen(&[0; 4], 3, 1, 2), None);
-        assert_eq!(widen(&[0; 4], usize::MAX, 1, 8), None);
+    fn what_is_no_such_plane_is_none() {
+        assert_eq!(widen(vec![0; 5], 4, 3, 4), None);
+        assert_eq!(widen(vec![0; 4], 4, 9, 4), None);
+        assert_eq!(widen(vec![0; 4], 4, u32::MAX, 1), None);
+        assert_eq!(widen(vec![0; 4], 4, 3, 2), None);
     }
 
     #[test]
     fn a_plane_without_pixels_is_empty() {
-        assert_eq!(widen(&[], 0, 9, 1), Some(vec![]));
-        assert_eq!(widen(&[], 9, 0, 4), Some(vec![]));
+        assert_eq!(widen(vec![], 0, 0, 1), plane(&[], 0));
+        assert_eq!(widen(vec![], 8, 9, 4), plane(&[], 9));
     }
 }

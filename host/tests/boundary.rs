@@ -2,10 +2,16 @@
 //! values, its file of 521 bytes, and slices of length 0; with numbers, and with results. Built and
 //! run by host/check.
 
-use psp::{numbers, Entry, Rect, Refusal, RefusedListing, RefusedPlane};
+use psp::{numbers, Entry, Rect, Refusal, RefusedListing, RefusedPlane, ENTRY_NUMBERS};
 
 /// Document 01's file: a 1 by 1 grey image, raw, with one layer and one channel.
 fn grey() -> Vec<u8> {
+    grey_with(&[9, 0, 0, 0])
+}
+
+/// The same with another plane.
+fn grey_with(plane: &[u8]) -> Vec<u8> {
+    let length = plane.len() as u32;
     let block = |id: u8, initial: u32, total: u32| {
         let mut header = b"~BK\0".to_vec();
         header.extend_from_slice(&[id, 0]);
@@ -20,8 +26,8 @@ fn grey() -> Vec<u8> {
         image[place] = byte;
     }
     file.extend_from_slice(&image);
-    file.extend(block(3, 0, 419));
-    file.extend(block(4, 375, 405));
+    file.extend(block(3, 0, 415 + length));
+    file.extend(block(4, 375, 401 + length));
     let mut layer = [0; 375];
     for (place, byte) in [
         (0, b'a'),
@@ -35,8 +41,9 @@ fn grey() -> Vec<u8> {
         layer[place] = byte;
     }
     file.extend_from_slice(&layer);
-    file.extend(block(5, 12, 16));
-    file.extend_from_slice(&[4, 0, 0, 0, 4, 0, 0, 0, 0, 0, 0, 0, 9, 0, 0, 0]);
+    file.extend(block(5, 12, 12 + length));
+    file.extend([length, length, 0].map(u32::to_le_bytes).concat());
+    file.extend_from_slice(plane);
     file
 }
 
@@ -50,10 +57,10 @@ const SQUARE: Rect = Rect {
 #[test]
 fn the_listing_is_one_in_table_and_records() {
     let file = grey();
-    let mut table = vec![7; 4 * 13 + 5];
+    let mut table = vec![7; 4 * ENTRY_NUMBERS + 5];
     let listed = numbers::list(&file, &mut table);
     assert_eq!((listed.number, listed.place, listed.count), (0, 521, 4));
-    assert_eq!(table[52..], [7; 5]);
+    assert_eq!(table[4 * ENTRY_NUMBERS..], [7; 5]);
     assert_eq!(numbers::count(&file, usize::MAX), listed);
     assert_eq!(numbers::count(&file, 3).number, 12);
 
@@ -65,8 +72,24 @@ fn the_listing_is_one_in_table_and_records() {
     );
     assert_eq!(again, table);
     let channel = &records[3];
-    assert_eq!((channel.id, channel.start, channel.plane), (5, 517, 4));
+    assert_eq!((channel.id, channel.start), (5, 517));
+    assert_eq!((channel.plane, channel.row), (4, 4));
+    assert!(records[..3].iter().all(|entry| entry.row == 0));
     assert_eq!(records[4], Entry::default());
+}
+
+#[test]
+fn a_plane_length_gives_the_row() {
+    let of = |file: &[u8]| {
+        let mut table = [0; 4 * ENTRY_NUMBERS];
+        let listed = numbers::list(file, &mut table);
+        let [plane, row] = [1, 0].map(|back| table[4 * ENTRY_NUMBERS - 1 - back]);
+        (listed.number, listed.place, plane, row)
+    };
+    assert_eq!(of(&grey()), (0, 521, 4, 4));
+    assert_eq!(of(&grey_with(&[9])), (0, 518, 1, 1));
+    assert_eq!(of(&grey_with(&[9, 0])), (8, 505, 0, 0));
+    assert_eq!(of(&grey_with(&[9; 5])), (8, 505, 0, 0));
 }
 
 #[test]
@@ -101,13 +124,47 @@ fn a_plane_is_read_and_placed() {
         right: 1,
         bottom: 2,
     };
-    let number = numbers::place(3, 2, &mut canvas, r, &[0x10, 0x11, 0, 0]);
+    let number = numbers::place(3, 2, &mut canvas, r, &[0x10, 0x11, 0, 0], 4);
     assert_eq!((number, canvas), (0, [0, 0, 0, 0x11, 0, 0]));
-    assert_eq!(numbers::place(3, 3, &mut canvas, r, &[]), 40);
+    assert_eq!(numbers::place(3, 3, &mut canvas, r, &[], 4), 40);
     let none = Rect::default();
     assert_eq!(numbers::intersect(r, SQUARE), none);
     let wide = Rect { right: 9, ..SQUARE };
     assert_eq!(numbers::intersect(SQUARE, wide), SQUARE);
+}
+
+/// Two rows of three pixels, the first of them left of a canvas of 3 by 2.
+const WIDE: Rect = Rect {
+    left: -1,
+    top: 0,
+    right: 2,
+    bottom: 2,
+};
+
+#[test]
+fn a_row_is_padded_or_not() {
+    let placed = |plane: &[u8], row| {
+        let mut canvas = [7; 6];
+        let number = numbers::place(3, 2, &mut canvas, WIDE, plane, row);
+        (number, canvas)
+    };
+    let good = (0, [2, 3, 7, 5, 6, 7]);
+    assert_eq!(placed(&[1, 2, 3, 99, 4, 5, 6, 99], 4), good);
+    assert_eq!(placed(&[1, 2, 3, 4, 5, 6], 3), good);
+    for (length, row) in [(8, 3), (6, 4), (4, 2), (10, 5), (0, 0), (8, 4 + (1 << 31))] {
+        assert_eq!(placed(&[1; 16][..length], row), (42, [7; 6]));
+    }
+}
+
+#[test]
+fn an_empty_rectangle_has_a_row() {
+    let mut canvas = [7; 6];
+    let mut placed = |r, row| numbers::place(3, 2, &mut canvas, r, &[], row);
+    let flat = Rect { bottom: 0, ..WIDE };
+    assert_eq!([2, 3, 4, 5].map(|row| placed(flat, row)), [42, 0, 0, 42]);
+    let thin = Rect { right: -1, ..WIDE };
+    assert_eq!([0, 1, 4].map(|row| placed(thin, row)), [0, 42, 42]);
+    assert_eq!(canvas, [7; 6]);
 }
 
 #[test]
@@ -166,7 +223,7 @@ fn slices_may_be_empty() {
 #[test]
 fn the_library_is_the_header_s_and_the_crate_s() {
     assert_eq!(numbers::version(), psp::ffi::VERSION);
-    assert_eq!(psp::version().to_string(), "0.2.0");
+    assert_eq!(psp::version().to_string(), "0.3.0");
     // Where cargo builds this, its own manifest has the version too.
     if let Some(version) = option_env!("CARGO_PKG_VERSION") {
         assert_eq!(psp::version().to_string(), version);
@@ -176,7 +233,7 @@ fn the_library_is_the_header_s_and_the_crate_s() {
 #[test]
 fn a_listing_is_its_count_or_its_refusal() {
     let file = grey();
-    let mut table = [0; 4 * 13];
+    let mut table = [0; 4 * ENTRY_NUMBERS];
     let mut records = [Entry::default(); 4];
     assert_eq!(psp::count(&file, usize::MAX), Ok(4));
     assert_eq!(psp::list(&file, &mut table), Ok(4));
@@ -192,7 +249,7 @@ fn a_listing_is_its_count_or_its_refusal() {
 #[test]
 fn a_refused_listing_tells_what_was_found_before() {
     let file = grey();
-    let mut table = [7; 4 * 13];
+    let mut table = [7; 4 * ENTRY_NUMBERS];
     let mut records = [Entry::default(); 4];
     let refused = RefusedListing {
         refusal: Refusal::EndsTooSoon,
@@ -201,7 +258,8 @@ fn a_refused_listing_tells_what_was_found_before() {
     };
     let cut = &file[..520];
     assert_eq!(psp::list(cut, &mut table), Err(refused));
-    assert_eq!((table[26], table[39]), (4, 7));
+    let [third, fourth] = [2, 3].map(|entry| table[entry * ENTRY_NUMBERS]);
+    assert_eq!((third, fourth), (4, 7));
     let answer = psp::list_records(cut, &mut table, &mut records);
     assert_eq!(answer, Err(refused));
     let found = records.map(|entry| (entry.id, entry.owned));
@@ -226,9 +284,11 @@ fn a_plane_is_its_length_or_its_refusal() {
     assert_eq!(psp::pack(&[0x41, 0x41], &mut dest), Ok(3));
     assert_eq!(psp::pack(&[1, 2], &mut []), Err(Refusal::PackNoRoom));
     let canvas = &mut [0; 1];
-    assert_eq!(psp::place(1, 1, canvas, SQUARE, &[9, 0, 0, 0]), Ok(()));
+    assert_eq!(psp::place(1, 1, canvas, SQUARE, &[9, 0, 0, 0], 4), Ok(()));
     assert_eq!(canvas, &[9]);
-    let none = psp::place(1, 1, canvas, SQUARE, &[]);
+    assert_eq!(psp::place(1, 1, canvas, SQUARE, &[8], 1), Ok(()));
+    assert_eq!(canvas, &[8]);
+    let none = psp::place(1, 1, canvas, SQUARE, &[], 1);
     assert_eq!(none, Err(Refusal::PlaneWrong));
     assert_eq!(psp::intersect(SQUARE, SQUARE), SQUARE);
 }

@@ -29,6 +29,13 @@ layer 9: bitmap 1 channel 0
 layer 9: bitmap 2 channel 0
 plane of 64 by 40 pixels, 2560 bytes
 placed at (16,12) on 96 by 64: 1280 pixels are not 0' mug.psp 9 2 0
+# The disc is narrower here, and its rows are padded or not.
+for form in padded unpadded; do
+  for language in '' _rs; do
+    same "placed_plane$language, rows $form" 'placed at (20,14) on 96 by 64: 1494 pixels are not 0' \
+      "$($emulator "$root/target/host/placed_plane$language" mug-$form.psp 4 1 0 | tail -n 1)"
+  done
+done
 not_placed 'no such layer' mug.psp 11 0 0
 not_placed 'the layer has no such channel' grey521.psp 0 1 0
 not_placed 'several pixels a byte: spread them before placing' bits1.psp 0 0 0

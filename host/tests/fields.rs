@@ -20,7 +20,7 @@ const ROOM: usize = usize::MAX;
 /// The entries of an input whose blocks are known, and the answer's number.
 fn listed(input: &[u8]) -> (u32, Vec<Entry>) {
     let room = psp::count(input, ROOM).count;
-    let mut table = vec![0; room * 13];
+    let mut table = vec![0; room * psp::ffi::ENTRY_NUMBERS];
     let mut entries = vec![Entry::default(); room];
     let answer = psp::list_records(input, &mut table, &mut entries);
     entries.retain(|entry| entry.skipped == 0);

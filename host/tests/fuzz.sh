@@ -28,12 +28,14 @@ damage() {
 
 run=0
 while [ $run -lt 300 ]; do
-  case $((run % 5)) in
+  case $((run % 7)) in
   0) cp mug.psp fuzz.psp ;;
   1) cp bits4.psp fuzz.psp ;;
   2) cp skips.psp fuzz.psp ;;
   3) cp greys.psp fuzz.psp ;;
   4) cp palette.psp fuzz.psp ;;
+  5) cp mug-unpadded.psp fuzz.psp ;;
+  6) cp rows1-unpadded.psp fuzz.psp ;;
   esac
   damage
   [ $((run % 3)) -ne 0 ] || damage

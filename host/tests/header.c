@@ -1,7 +1,8 @@
-/* The header against the archive, in C and in C++: header FILE, document 01's file of 521 bytes. Their versions agree, and every function
- * takes a null pointer where the length is 0: its answer is the one that a buffer of length 0 gets. */
+/* The header against the archive, in C and in C++: header FILE, document 01's file of 521 bytes. Their versions agree, their entries too,
+ * and every function takes a null pointer where the length is 0: its answer is the one that a buffer of length 0 gets. */
 #include <psp.h>
 #include <stdio.h>
+#include <string.h>
 
 #ifdef __cplusplus
 #include <vector>
@@ -29,17 +30,28 @@ static int is_part(psp_part a, uint32_t number) { return a.number == number && a
 
 /* Each buffer null in its turn, the others as they come. */
 static void listings(const uint8_t *file, size_t length) {
-  uint32_t table[2 * PSP_ENTRY_NUMBERS];
-  psp_entry records[2];
-  hold(is_listed(psp_list(NULL, 0, table, 2 * PSP_ENTRY_NUMBERS), PSP_ENDS_TOO_SOON, 0, 0), "psp_list: no input");
+  enum { ROOM = 2, NUMBERS = ROOM * PSP_ENTRY_NUMBERS };
+  uint32_t table[NUMBERS];
+  psp_entry records[ROOM];
+  hold(is_listed(psp_list(NULL, 0, table, NUMBERS), PSP_ENDS_TOO_SOON, 0, 0), "psp_list: no input");
   hold(is_listed(psp_list(file, length, NULL, 0), PSP_TABLE_FULL, 36, 0), "psp_list: no table");
   hold(is_listed(psp_list(NULL, 0, NULL, 0), PSP_ENDS_TOO_SOON, 0, 0), "psp_list: neither");
   hold(same_listed(psp_list(file, length, NULL, 0), psp_list(file, length, table, 0)), "psp_list: null as a table of length 0");
   hold(is_listed(psp_count(NULL, 0, SIZE_MAX), PSP_ENDS_TOO_SOON, 0, 0), "psp_count: no input");
-  hold(is_listed(psp_list_records(NULL, 0, table, 26, records, 2), PSP_ENDS_TOO_SOON, 0, 0), "psp_list_records: no input");
-  hold(is_listed(psp_list_records(file, length, NULL, 0, records, 2), PSP_TABLE_FULL, 36, 0), "psp_list_records: no table");
-  hold(is_listed(psp_list_records(file, length, table, 26, NULL, 0), PSP_TABLE_FULL, 36, 0), "psp_list_records: no records");
+  hold(is_listed(psp_list_records(NULL, 0, table, NUMBERS, records, ROOM), PSP_ENDS_TOO_SOON, 0, 0), "psp_list_records: no input");
+  hold(is_listed(psp_list_records(file, length, NULL, 0, records, ROOM), PSP_TABLE_FULL, 36, 0), "psp_list_records: no table");
+  hold(is_listed(psp_list_records(file, length, table, NUMBERS, NULL, 0), PSP_TABLE_FULL, 36, 0), "psp_list_records: no records");
   hold(is_listed(psp_list_records(NULL, 0, NULL, 0, NULL, 0), PSP_ENDS_TOO_SOON, 0, 0), "psp_list_records: none");
+}
+
+/* A record has the numbers of the table, in its order. */
+static void entries(const uint8_t *file, size_t length) {
+  enum { ROOM = 4, NUMBERS = ROOM * PSP_ENTRY_NUMBERS };
+  uint32_t table[NUMBERS];
+  psp_entry records[ROOM];
+  hold(is_listed(psp_list_records(file, length, table, NUMBERS, records, ROOM), PSP_ACCEPTED, length, ROOM), "psp_entry: the listing");
+  hold(sizeof records == sizeof table && memcmp(records, table, sizeof table) == 0, "psp_entry: the numbers of the table");
+  hold(records[2].row == 0 && records[3].plane == 4 && records[3].row == 4, "psp_entry: plane length and row");
 }
 
 static void planes(const uint8_t *file, size_t length) {
@@ -70,11 +82,14 @@ static void canvases(void) {
   const psp_rect square = {0, 0, 1, 1};
   const uint8_t plane[4] = {9, 0, 0, 0};
   uint8_t canvas[1] = {7};
-  hold(psp_place(1, 1, NULL, 0, square, plane, 4) == PSP_CANVAS_WRONG, "psp_place: no canvas");
-  hold(psp_place(1, 1, canvas, 1, empty, NULL, 0) == PSP_ACCEPTED, "psp_place: no plane");
-  hold(psp_place(1, 1, canvas, 1, square, NULL, 0) == PSP_PLANE_WRONG, "psp_place: no plane for a rectangle");
-  hold(psp_place(0, 0, NULL, 0, empty, NULL, 0) == PSP_CANVAS_WRONG, "psp_place: neither");
+  hold(psp_place(1, 1, NULL, 0, square, plane, 4, 4) == PSP_CANVAS_WRONG, "psp_place: no canvas");
+  hold(psp_place(1, 1, canvas, 1, empty, NULL, 0, 0) == PSP_ACCEPTED, "psp_place: no plane");
+  hold(psp_place(1, 1, canvas, 1, empty, NULL, 0, 4) == PSP_PLANE_WRONG, "psp_place: a row of no plane");
+  hold(psp_place(1, 1, canvas, 1, square, NULL, 0, 4) == PSP_PLANE_WRONG, "psp_place: no plane for a rectangle");
+  hold(psp_place(0, 0, NULL, 0, empty, NULL, 0, 0) == PSP_CANVAS_WRONG, "psp_place: neither");
   hold(canvas[0] == 7, "psp_place: the canvas is untouched");
+  hold(psp_place(1, 1, canvas, 1, square, plane, 4, 4) == PSP_ACCEPTED && canvas[0] == 9, "psp_place: a padded row");
+  hold(psp_place(1, 1, canvas, 1, square, plane + 1, 1, 1) == PSP_ACCEPTED && canvas[0] == 0, "psp_place: a row without padding");
 }
 
 static void views(const uint8_t *file, size_t length) {
@@ -108,6 +123,7 @@ int main(int argc, char **argv) {
   hold(psp_version() == PSP_VERSION, "psp_version: header and library are of one version");
   hold(psp_count(file, sizeof file, SIZE_MAX).number == PSP_ACCEPTED, "the file is accepted");
   listings(file, sizeof file);
+  entries(file, sizeof file);
   planes(file, sizeof file);
   canvases();
   views(file, sizeof file);

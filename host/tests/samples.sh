@@ -5,7 +5,8 @@
 for name in grey521 layers11 palette bits1 bits4 greys skips; do
   "$reference" file $name > $name.psp
 done
-cp "$root/samples/mug.psp" "$root/samples/mug.csv" "$root"/host/tests/typed/*.csv .
+"$root/target/host/twins" || fail "host/tests/twins.rs writes nothing"
+cp "$root"/samples/*.psp "$root/samples/mug.csv" "$root"/host/tests/typed/*.csv .
 
 # put FILE PLACE BYTES: writes bytes, as printf has them, over a place of a file.
 put() {
@@ -36,6 +37,7 @@ damaged place grey521 40 '\001'
 damaged field grey521 50 '\000'
 damaged rectangle grey521 397 '\002'
 damaged plane-length grey521 509 '\005'
+damaged code grey521 513 '\006'
 damaged expected mug 86 '\012'
 damaged missing mug 86 '\014'
 damaged lz77 grey521 67 '\002'

@@ -5,6 +5,7 @@ use Rattle.attributes.proofs.depth.bits.Reads as bits
 use Rattle.attributes.proofs.depth.channels.Reads as channels
 use Rattle.attributes.proofs.depth.full.Reads as full
 use Rattle.attributes.proofs.depth.permitted.Reads as depth
+use Rattle.attributes.proofs.depth.short.Reads as short
 use Rattle.attributes.proofs.depth.within.Reads as within
 use Rattle.attributes.proofs.fault.Fault.unless.Reads as unless
 use Rattle.attributes.proofs.image_attributes.ImageChunk.decode.Reads as image
@@ -41,6 +42,9 @@ per-centimetre-one l a y z e f = one
 
 pub depth-one : OneResult depth.Learnt
 depth-one l a y z e f = one
+
+pub short-one : OneResult short.Learnt
+short-one l a y z e f = one
 
 pub full-one : OneResult full.Learnt
 full-one l a y z e f = one

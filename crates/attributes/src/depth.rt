@@ -2,7 +2,7 @@
 ghost use mathlib.Core.Path.{_≡_};
 ghost use Prim.Native.Nat.{_≤_, _<_, _^_};
 ghost use lib.Dec.{eqb, leb};
-ghost use Rattle.attributes.specs.Depth.{isDepth, colourBits, colourChannels};
+ghost use Rattle.attributes.specs.Depth.{isDepth, colourBits, colourChannels, colourShort};
 
 pub fn permitted(depth: u16) -> bool
     ensures { λ r. ⌜ r ≡ isDepth depth ⌝ }
@@ -55,4 +55,11 @@ pub fn bits(depth: u16) -> u32
         return depth as u32;
     }
     8
+}
+
+// Whether the rows of a colour plane may be short: as many bytes as pixels, without padding.
+pub fn short(depth: u16) -> bool
+    ensures { λ r. ⌜ r ≡ colourShort depth ⌝ }
+{
+    (depth == 8) | (depth == 24)
 }

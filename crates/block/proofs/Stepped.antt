@@ -10,6 +10,7 @@ use lib.ListN.{length}
 use Rattle.laws.specs.Lists.{part}
 use Rattle.laws.proofs.Choice.{pick-yes, pick-no, pick-ind}
 use Rattle.laws.proofs.Tests.{both}
+use Rattle.rect.specs.Rows.{sizeOf}
 use Rattle.answer.specs.declared.Refusal.{Refusal}
 use Rattle.entry.specs.declared.Entry.{Entry}
 use Rattle.entry.specs.Entry.{block, content, plain, ranked, filled}
@@ -29,7 +30,7 @@ use Rattle.memory.specs.declared.places.Placing.{Placing}
 use Rattle.memory.specs.declared.places.Placing.the-variants.{Refuse, Enter, Skip}
 use Rattle.memory.specs.declared.state.State.{State}
 use Rattle.memory.specs.Parent.{main, levelOf, parentAt}
-use Rattle.memory.specs.State.{withImage, withPalette, withBank, withLayer, withChannel, sizeFor, isSurplus, isFull}
+use Rattle.memory.specs.State.{withImage, withPalette, withBank, withLayer, withChannel, shapeFor, isSurplus, isFull}
 use Rattle.memory.proofs.Parents.{Held, by-main, by-bank, by-layer, held}
 use Rattle.memory.proofs.Placed.{Begun, Placed, refused, image, palette, bank, layer, channel, skip, placed}
 use Rattle.kinds.specs.Blocks.{imageBlock, paletteCounted, paletteBlock, bankBlock, skippedBy, skipBlock}
@@ -78,10 +79,11 @@ module _ (s : List ℕ) (st : State) (at end levels : ℕ) where
     pub deepest : levels ≡ 0
     pub room : 0 < st .layer .left
     pub awaited : isAwaited st chunk ≡ true
-    pub plane : planeFault (sizeFor (st .layer) (st .image .depth) (chunk .bitmap) .plane) chunk ≡ None
+    pub plane : planeFault (shapeFor (st .layer) (st .image .depth) (chunk .bitmap)) chunk ≡ None
     pub present : at + channelHead + chunk .stored ≤ length s
     pub within : at + channelHead + chunk .stored ≤ end
-    pub entry : e ≡ channelEntry level at (st .layer .number) chunk (sizeFor (st .layer) (st .image .depth) (chunk .bitmap))
+    pub entry :
+        e ≡ channelEntry level at (st .layer .number) chunk (sizeOf (shapeFor (st .layer) (st .image .depth) (chunk .bitmap)) (chunk .plane))
     pub goes-on : next ≡ at + channelHead + chunk .stored
     pub state : q ≡ withChannel chunk st
 

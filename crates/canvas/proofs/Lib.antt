@@ -1,8 +1,9 @@
--- Laws of placing: a block of rows, the corners that an axis and a canvas side share, the canvas's pixels, the clipped block, the tests and the answers.
+-- Laws of placing: a block of rows, the corners that an axis and a canvas side share, the canvas's pixels, the clipped block, the tests, an accepted call, and the answers.
 pub mod Block
 pub mod Axes
 pub mod Pixels
 pub mod Clipped
 pub mod PlaceTests
+pub mod Placed
 pub mod Answers
 pub mod Twice

@@ -78,7 +78,7 @@ between a (pos b) x h k =
 
 -- the byte of a pixel inside stands before the padding of its row, and in the plane
 pub record Held (r : Rect) (plane : List ℕ) (row x y : ℕ) : Type 0 where
-  pub unpadded : sideOf (r .left) (pos x) < widthOf r
+  pub across : sideOf (r .left) (pos x) < widthOf r
   pub high : sideOf (r .top) (pos y) < heightOf r
   pub inside : byteOf r row (pos x) (pos y) < length plane
 
@@ -92,7 +92,7 @@ pixel-held {r = r} {plane} {row} fit x y h =
     let w = between (r .left) (r .right) x (across .0) (across .1) in
     let v = between (r .top) (r .bottom) y (down .0) (down .1) in
     record {
-      unpadded = w;
+      across = w;
       high = v;
       inside = omega (arith, next (sideOf (r .top) (pos y)) (heightOf r) row v, mul-comm row (heightOf r), fit .whole, fit .holds);
     }

@@ -4,22 +4,22 @@ use mathlib.Core.Bool.{true, false, not}
 use mathlib.Core.List.{List}
 use Prim.Native.Nat.{ℕ}
 use native.Mathlib.Omega.{arith}
-use borrow.Author.Tests.{leb-true, eqb-true, eq-eqb, ne-eqb}
+use borrow.Author.Tests.{leb-true, eqb-true}
 use lib.ListN.{length}
 use Rattle.laws.specs.Results.{Result}
 use Rattle.laws.proofs.Choice.{pick-yes, pick-no}
 use Rattle.laws.proofs.Tests.{both}
 use Rattle.rect.specs.declared.Rect.{Rect}
 use Rattle.rect.specs.Rect.{widthOf, isWithin}
-use Rattle.rect.specs.Rows.{rowOf, planeOf}
+use Rattle.rect.specs.Rows.{isForm}
 use Rattle.rect.proofs.Tests.{within-sized}
-use Rattle.rect.proofs.Rows.{holds}
-use Rattle.canvas.specs.Placing.{isCanvas, untouched, onCanvas, placed}
+use Rattle.rect.proofs.Forms.{form-holds}
+use Rattle.canvas.specs.Placing.{isCanvas, isPlaneOf, untouched, onCanvas, placed}
 use Rattle.canvas.specs.Blocks.{Fit}
 
-module _ (width height : ℕ) (canvas : List ℕ) (r : Rect) (plane : List ℕ) where
+module _ (width height : ℕ) (canvas : List ℕ) (r : Rect) (plane : List ℕ) (row : ℕ) where
   abbrev said : Result ℕ
-  said = placed width height canvas r plane
+  said = placed width height canvas r plane row
 
   pub bad-canvas : isCanvas width height (length canvas) ≡ false → said ≡ untouched 40 canvas
   unfolding placed
@@ -31,23 +31,19 @@ module _ (width height : ℕ) (canvas : List ℕ) (r : Rect) (plane : List ℕ) 
     bad-rect h = pick-no _ _ _ (ap not canvas-fits) ∙ pick-yes _ _ _ (ap not h)
 
     module _ (within : isWithin r ≡ true) where
-      pub bad-plane : (length plane ≡ planeOf r 8 → ⊥) → said ≡ untouched 42 canvas
+      pub bad-plane : isPlaneOf r row (length plane) ≡ false → said ≡ untouched 42 canvas
       unfolding placed
-      bad-plane h =
-          pick-no _ _ _ (ap not canvas-fits) ∙ pick-no _ _ _ (ap not within) ∙ pick-yes _ _ _ (ap not (ne-eqb (length plane) (planeOf r 8) h))
+      bad-plane h = pick-no _ _ _ (ap not canvas-fits) ∙ pick-no _ _ _ (ap not within) ∙ pick-yes _ _ _ (ap not h)
 
-      module _ (whole : length plane ≡ planeOf r 8) where
-        pub all-well : said ≡ record { told = 0; dest = onCanvas width (rowOf (widthOf r) 8) r plane canvas }
+      module _ (whole : isPlaneOf r row (length plane) ≡ true) where
+        pub all-well : said ≡ record { told = 0; dest = onCanvas width row r plane canvas }
         unfolding placed
-        all-well =
-            pick-no _ _ _ (ap not canvas-fits)
-            ∙ pick-no _ _ _ (ap not within)
-            ∙ pick-no _ _ _ (ap not (eq-eqb (length plane) (planeOf r 8) whole))
+        all-well = pick-no _ _ _ (ap not canvas-fits) ∙ pick-no _ _ _ (ap not within) ∙ pick-no _ _ _ (ap not whole)
 
-        -- a row of 8 bits a pixel holds the rectangle's pixels
-        pub fit : Fit width height canvas r plane (rowOf (widthOf r) 8)
-        unfolding planeOf
+        -- a row in either form holds the rectangle's pixels
+        pub fit : Fit width height canvas r plane row
         fit =
+            let parts = both (isForm (widthOf r) 8 true row) _ whole in
             let h₄ = both _ _ canvas-fits in
             let h₃ = both _ _ (h₄ .0) in
             let h₂ = both _ _ (h₃ .0) in
@@ -59,6 +55,6 @@ module _ (width height : ℕ) (canvas : List ℕ) (r : Rect) (plane : List ℕ) 
               high = leb-true _ _ (h₃ .1);
               long = eqb-true _ _ (h₄ .1);
               sized = within-sized r within;
-              holds = omega (arith, holds (widthOf r) 8 .0);
-              whole = whole;
+              holds = form-holds (widthOf r) true row (parts .0);
+              whole = eqb-true _ _ (parts .1);
             }

@@ -1,21 +1,18 @@
--- Placing one plane twice equals placing it once.
+-- A plane that is placed a second time changes nothing.
 use mathlib.Core.Path.{_≡_, refl, sym, ap, _∙_}
 use mathlib.Core.Bool.{Bool, true, false}
 use mathlib.Core.List.{List}
 use Prim.Native.Nat.{ℕ, _/_, _%_}
 use native.Mathlib.Omega.{arith}
-use borrow.Author.Tests.{eqb-true, eqb-false}
-use lib.Dec.{eqb}
 use lib.IntN.{pos}
 use lib.ListN.{length, getD}
 use Rattle.laws.specs.Choice.{pick}
 use Rattle.laws.specs.Results.{Result}
 use Rattle.laws.proofs.Choice.{pick-yes, pick-no, pick-ind}
 use Rattle.rect.specs.declared.Rect.{Rect}
-use Rattle.rect.specs.Rect.{isWithin, widthOf}
-use Rattle.rect.specs.Rows.{rowOf, planeOf}
+use Rattle.rect.specs.Rect.{isWithin}
 use Rattle.rect.specs.Shared.{hasPixel}
-use Rattle.canvas.specs.Placing.{isCanvas, byteOf, pixelOf, onCanvas, placed}
+use Rattle.canvas.specs.Placing.{isCanvas, isPlaneOf, byteOf, pixelOf, onCanvas, placed}
 use Rattle.canvas.proofs.Pixels.{placed-length, placed-at, placed-is}
 use Rattle.canvas.proofs.PlaceTests.{bad-canvas, bad-rect, bad-plane, all-well}
 
@@ -38,37 +35,33 @@ placed-twice width row r plane canvas =
 
 -- and so do number and canvas of the whole call, whatever its arguments
 pub place-twice :
-    (width height : ℕ) (canvas : List ℕ) (r : Rect) (plane : List ℕ)
-    → placed width height (placed width height canvas r plane .dest) r plane ≡ placed width height canvas r plane
-place-twice width height canvas r plane = by-canvas (isCanvas width height (length canvas)) refl
+    (width height : ℕ) (canvas : List ℕ) (r : Rect) (plane : List ℕ) (row : ℕ)
+    → placed width height (placed width height canvas r plane row .dest) r plane row ≡ placed width height canvas r plane row
+place-twice width height canvas r plane row = by-canvas (isCanvas width height (length canvas)) refl
   where
-    row : ℕ
-    row = rowOf (widthOf r) 8
-
     on : List ℕ
     on = onCanvas width row r plane canvas
 
     next : Result ℕ → Result ℕ
-    next s = placed width height (s .dest) r plane
+    next s = placed width height (s .dest) r plane row
 
     by-plane :
-        isCanvas width height (length canvas) ≡ true → isWithin r ≡ true → (b : Bool) → eqb (length plane) (planeOf r 8) ≡ b
-        → next (placed width height canvas r plane) ≡ placed width height canvas r plane
+        isCanvas width height (length canvas) ≡ true → isWithin r ≡ true → (b : Bool) → isPlaneOf r row (length plane) ≡ b
+        → next (placed width height canvas r plane row) ≡ placed width height canvas r plane row
     by-plane c w true h =
-        let whole = eqb-true _ _ h in
-        let e = all-well width height canvas r plane c w whole in
+        let e = all-well width height canvas r plane row c w h in
         let c′ = ap (isCanvas width height) (placed-length width row r plane canvas) ∙ c in
         let twice : _≡_ {A = Result ℕ} (record { told = 0; dest = onCanvas width row r plane on }) (record { told = 0; dest = on }) =
         λ i. record { told = 0; dest = placed-twice width row r plane canvas i } in
-        ap next e ∙ all-well width height on r plane c′ w whole ∙ twice ∙ sym e
-    by-plane c w false h = ap next (bad-plane width height canvas r plane c w (eqb-false _ _ h))
+        ap next e ∙ all-well width height on r plane row c′ w h ∙ twice ∙ sym e
+    by-plane c w false h = ap next (bad-plane width height canvas r plane row c w h)
 
     by-rect :
         isCanvas width height (length canvas) ≡ true → (b : Bool) → isWithin r ≡ b
-        → next (placed width height canvas r plane) ≡ placed width height canvas r plane
-    by-rect c true h = by-plane c h (eqb (length plane) (planeOf r 8)) refl
-    by-rect c false h = ap next (bad-rect width height canvas r plane c h)
+        → next (placed width height canvas r plane row) ≡ placed width height canvas r plane row
+    by-rect c true h = by-plane c h (isPlaneOf r row (length plane)) refl
+    by-rect c false h = ap next (bad-rect width height canvas r plane row c h)
 
-    by-canvas : (b : Bool) → isCanvas width height (length canvas) ≡ b → next (placed width height canvas r plane) ≡ placed width height canvas r plane
+    by-canvas : (b : Bool) → isCanvas width height (length canvas) ≡ b → next (placed width height canvas r plane row) ≡ placed width height canvas r plane row
     by-canvas true h = by-rect h (isWithin r) refl
-    by-canvas false h = ap next (bad-canvas width height canvas r plane h)
+    by-canvas false h = ap next (bad-canvas width height canvas r plane row h)

@@ -1,6 +1,8 @@
--- A plane on a canvas (document 01, Canvas and palette).
-use Prim.Native.Nat.{ℕ, _+_, _*_, _/_, _%_}
-use mathlib.Core.Bool.{Bool, _&&_, not}
+-- A plane on a canvas (document 01, Canvas and palette; document 02, request i: the row).
+use Prim.Native.Nat.{ℕ, _+_, _*_, _/_, _%_, _<_}
+use mathlib.Core.Path.{_≡_}
+use mathlib.Core.Bool.{Bool, true, false, _&&_, not}
+use mathlib.Core.Logic.{_⊎_}
 use mathlib.Core.List.{List}
 use lib.Dec.{eqb, leb}
 use lib.IntN.{ℤ, pos}
@@ -10,8 +12,8 @@ use Rattle.laws.specs.Lists.{indexed}
 use Rattle.laws.specs.Results.{Result}
 use Rattle.limits.specs.Limits.{sideLimit}
 use Rattle.rect.specs.declared.Rect.{Rect}
-use Rattle.rect.specs.Rect.{sideOf, widthOf, isWithin}
-use Rattle.rect.specs.Rows.{rowOf, planeOf}
+use Rattle.rect.specs.Rect.{sideOf, widthOf, heightOf, isWithin}
+use Rattle.rect.specs.Rows.{rowOf, isForm}
 use Rattle.rect.specs.Shared.{hasPixel}
 use Rattle.canvas.specs.declared.PlaceAnswer.{PlaceAnswer}
 use Rattle.canvas.specs.declared.PlaceAnswer.the-variants.{Placed, BadCanvas, BadRect, BadPlane}
@@ -34,6 +36,10 @@ abbrev pub isCanvas : ℕ → ℕ → ℕ → Bool
 isCanvas width height long =
     leb 1 width && leb width sideLimit && leb 1 height && leb height sideLimit && eqb long (width * height)
 
+-- a row in one of the forms of 8 bits a pixel, the short one included, and a length that is row times height
+abbrev pub isPlaneOf : Rect → ℕ → ℕ → Bool
+isPlaneOf r row long = isForm (widthOf r) 8 true row && eqb long (row * heightOf r)
+
 -- where the byte of the pixel (x, y) stands in a plane of r whose rows are so many bytes long
 abbrev pub byteOf : Rect → ℕ → ℤ → ℤ → ℕ
 byteOf r row x y = sideOf (r .top) y * row + sideOf (r .left) x
@@ -47,9 +53,20 @@ unfoldable pub onCanvas : ℕ → ℕ → Rect → List ℕ → List ℕ → Lis
 onCanvas width row r plane = indexed (λ (k : ℕ). pixelOf r row plane (pos (k % width)) (pos (k / width))) 0
 
 -- what `place` leaves: the tests in the document's order
-unfoldable pub placed : ℕ → ℕ → List ℕ → Rect → List ℕ → Result ℕ
-placed width height canvas r plane =
+unfoldable pub placed : ℕ → ℕ → List ℕ → Rect → List ℕ → ℕ → Result ℕ
+placed width height canvas r plane row =
     pick (not (isCanvas width height (length canvas))) (untouched 40 canvas)
     (pick (not (isWithin r)) (untouched 41 canvas)
-    (pick (not (eqb (length plane) (planeOf r 8))) (untouched 42 canvas)
-    (record { told = 0; dest = onCanvas width (rowOf (widthOf r) 8) r plane canvas })))
+    (pick (not (isPlaneOf r row (length plane))) (untouched 42 canvas)
+    (record { told = 0; dest = onCanvas width row r plane canvas })))
+
+-- what an accepted call leaves, in other words (`place-shows`): a row in one of its two forms; a canvas pixel (x, y) of the rectangle has the
+-- plane's byte at row times y plus x, counted from the rectangle's corner; any other pixel keeps its own
+pub record Shows (width height : ℕ) (before after : List ℕ) (r : Rect) (plane : List ℕ) (row : ℕ) : Type 0 where
+  pub form : (row ≡ rowOf (widthOf r) 8) ⊎ (row ≡ widthOf r)
+  pub long : length after ≡ length before
+  pub inside :
+      (x y : ℕ) → x < width → y < height → hasPixel r (pos x) (pos y) ≡ true
+      → getD after (y * width + x) 0 ≡ getD plane (row * sideOf (r .top) (pos y) + sideOf (r .left) (pos x)) 0
+  pub outside :
+      (x y : ℕ) → x < width → y < height → hasPixel r (pos x) (pos y) ≡ false → getD after (y * width + x) 0 ≡ getD before (y * width + x) 0

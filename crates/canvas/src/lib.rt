@@ -15,6 +15,6 @@ pub enum PlaceAnswer {
     BadCanvas,
     // 41: no such rectangle
     BadRect,
-    // 42: a plane that is not the rectangle's
+    // 42: a row or a plane that is not the rectangle's
     BadPlane,
 }

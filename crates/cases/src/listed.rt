@@ -10,7 +10,7 @@ ghost use mathlib.Core.Path.{_≡_};
 ghost use Prim.Native.Nat.{_≤_};
 ghost use lib.ListN.{length};
 
-// The largest room of a table, which then has at most 6,668 numbers.
+// The largest room of a table, which then has at most 7,181 numbers.
 const ROOM: u32 = 512;
 
 fn answered(kind: &[u8], o: Outcome) {
@@ -27,10 +27,10 @@ fn listing_into(input: &[u8], table: &mut [u32]) {
     text(b"\n");
 }
 
-fn table() -> [u32; 6668]
-    ensures { λ r. ⌜ 6668 ≡ length r ⌝ }
+fn table() -> [u32; 7181]
+    ensures { λ r. ⌜ 7181 ≡ length r ⌝ }
 {
-    [4008636142; 6668]
+    [4008636142; 7181]
 }
 
 fn lent(input: &[u8], room: u32) {

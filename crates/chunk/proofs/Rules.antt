@@ -1,9 +1,12 @@
 -- A palette, layer or channel chunk without a fault satisfies its rules.
 use mathlib.Core.Path.{_≡_}
+use mathlib.Core.Bool.{true}
 use Prim.Native.Nat.{ℕ}
 use borrow.Author.Tests.{leb-true, eqb-true}
 use lib.Dec.{leb}
 use Rattle.laws.proofs.Tests.{both}
+use Rattle.rect.specs.declared.planes.Shape.{Shape}
+use Rattle.rect.specs.Rows.{isPlane}
 use Rattle.rect.proofs.Tests.{proper-yes, saved-sized, saved-inside}
 use Rattle.attributes.specs.declared.fault.Fault.the-variants.{None}
 use Rattle.attributes.proofs.Earliest.{kept}
@@ -49,6 +52,6 @@ codes-rules c fault =
     let k = kept (codesFields c) fault in
     record { bitmap = leb-true _ _ (k .0); channel = leb-true _ _ (k .1 .0) }
 
-pub plane-rule : (length : ℕ) (c : ChannelChunk) → planeFault length c ≡ None → c .plane ≡ length
+pub plane-rule : (shape : Shape) (c : ChannelChunk) → planeFault shape c ≡ None → isPlane shape (c .plane) ≡ true
 unfolding planeFault
-plane-rule length c fault = eqb-true _ _ (kept (planeFields length c) fault .0)
+plane-rule shape c fault = kept (planeFields shape c) fault .0

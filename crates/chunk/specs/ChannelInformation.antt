@@ -1,9 +1,11 @@
--- The channel information chunk (document 000, section 4.6) and its rule (document 01, "Channel, id 5").
+-- The channel information chunk (document 000, section 4.6) and its rule (document 01, "Channel, id 5"; document 02, request i: the plane length).
 use Prim.Native.Nat.{ℕ}
 use mathlib.Core.List.{List, [], _∷_}
-use lib.Dec.{eqb, leb}
+use lib.Dec.{leb}
 use Rattle.endian.specs.Number.{numberAt}
 use Rattle.laws.specs.Lists.{part}
+use Rattle.rect.specs.declared.planes.Shape.{Shape}
+use Rattle.rect.specs.Rows.{isPlane}
 use Rattle.attributes.specs.declared.fault.Fault.{Fault}
 use Rattle.chunk.specs.declared.channel_information.ChannelChunk.{ChannelChunk}
 use Rattle.attributes.specs.Fault.{Field, field, earliest}
@@ -31,8 +33,9 @@ codesFields c = field 8 (leb (c .bitmap) 5) ∷ field 10 (leb (c .channel) 3) �
 unfoldable pub codesFault : ChannelChunk → Fault
 codesFault c = earliest (codesFields c)
 
-abbrev pub planeFields : ℕ → ChannelChunk → List Field
-planeFields length c = field 4 (eqb (c .plane) length) ∷ []
+-- for planes of this shape
+abbrev pub planeFields : Shape → ChannelChunk → List Field
+planeFields shape c = field 4 (isPlane shape (c .plane)) ∷ []
 
-unfoldable pub planeFault : ℕ → ChannelChunk → Fault
-planeFault length c = earliest (planeFields length c)
+unfoldable pub planeFault : Shape → ChannelChunk → Fault
+planeFault shape c = earliest (planeFields shape c)

@@ -1,5 +1,6 @@
 // The channel information chunk (document 000, section 4.6).
 use attributes::fault::Fault;
+use rect::Shape;
 ghost use mathlib.Core.Path.{_≡_};
 ghost use Prim.Native.Nat.{_+_, _≤_};
 ghost use lib.ListN.{length};
@@ -45,10 +46,11 @@ impl ChannelChunk {
             .unless(self.channel <= 3, 10)
     }
 
-    // For a plane of this length.
-    pub fn judge_plane(self, length: u32) -> Fault
-        ensures { λ r. ⌜ r ≡ planeFault length self ⌝ }
+    // Among planes of this shape.
+    pub fn judge_plane(self, shape: Shape) -> Fault
+        requires { ⌜ shape .bits ≤ 8 ⌝ }
+        ensures { λ r. ⌜ r ≡ planeFault shape self ⌝ }
     {
-        Fault::None.unless(self.plane == length, 4)
+        Fault::None.unless(shape.permits(self.plane), 4)
     }
 }

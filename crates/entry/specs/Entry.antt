@@ -1,4 +1,4 @@
--- An entry by what it tells of its block, its thirteen numbers in the table's order, and where a table keeps them (document 01, "The table").
+-- An entry by what it tells of its block, its fourteen numbers in the table's order, and where a table keeps them (document 01, "The table").
 use Prim.Native.Nat.{ℕ, _+_, _*_, _/_}
 use mathlib.Core.List.{List, [], _∷_, _++_}
 use lib.Dec.{ltb}
@@ -13,7 +13,7 @@ use Rattle.entry.specs.declared.Entry.{Entry}
 
 -- the numbers of an entry
 abbrev pub size : ℕ
-size = 13
+size = 14
 
 -- ### An entry, by what it tells. A part without meaning for its kind is zeros
 
@@ -46,16 +46,16 @@ nowhere = plain (block 0 0 0 0 0)
 abbrev pub numbersOf : Entry → List ℕ
 numbersOf e =
     e .block .id ∷ e .block .skipped ∷ e .block .level ∷ e .block .place ∷ e .block .owned ∷ e .layer ∷ e .code .bitmap ∷ e .code .channel
-    ∷ e .content .start ∷ e .content .stored ∷ e .size .width ∷ e .size .height ∷ e .size .plane ∷ []
+    ∷ e .content .start ∷ e .content .stored ∷ e .size .width ∷ e .size .height ∷ e .size .plane ∷ e .size .row ∷ []
 
--- the entry whose thirteen numbers stand in a table from a place on
+-- the entry whose fourteen numbers stand in a table from a place on
 abbrev pub entryAt : List ℕ → ℕ → Entry
 entryAt t at = record {
   block = block (getD t at 0) (getD t (at + 1) 0) (getD t (at + 2) 0) (getD t (at + 3) 0) (getD t (at + 4) 0);
   layer = getD t (at + 5) 0;
   code = code (getD t (at + 6) 0) (getD t (at + 7) 0);
   content = content (getD t (at + 8) 0) (getD t (at + 9) 0);
-  size = record { width = getD t (at + 10) 0; height = getD t (at + 11) 0; plane = getD t (at + 12) 0 };
+  size = record { width = getD t (at + 10) 0; height = getD t (at + 11) 0; plane = getD t (at + 12) 0; row = getD t (at + 13) 0 };
 }
 
 -- the numbers of entries, one after another

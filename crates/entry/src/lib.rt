@@ -1,4 +1,4 @@
-// An entry of the table (document 01, "The table"): its thirteen numbers, by what they tell of a block, and how a table keeps them.
+// An entry of the table (document 01, "The table"): its fourteen numbers, by what they tell of a block, and how a table keeps them.
 use rect::Size;
 ghost use mathlib.Core.Path.{_≡_};
 ghost use Prim.Native.Nat.{_+_, _≤_};
@@ -58,7 +58,7 @@ impl Content {
 
 impl Entry {
     // The numbers of an entry.
-    pub const SIZE: usize = 13;
+    pub const SIZE: usize = 14;
 
     // No entry.
     pub const NONE: Entry = Entry {
@@ -101,6 +101,7 @@ impl Entry {
                 width: table[at + 10],
                 height: table[at + 11],
                 plane: table[at + 12],
+                row: table[at + 13],
             },
         }
     }
@@ -125,6 +126,7 @@ pub fn put(table: &mut [u32], used: usize, e: Entry)
         e.size.width,
         e.size.height,
         e.size.plane,
+        e.size.row,
     ];
     let mut i = 0;
     while i < Entry::SIZE {

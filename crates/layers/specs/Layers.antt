@@ -4,7 +4,9 @@ use Prim.Native.Nat.{ℕ, _+_}
 use mathlib.Core.Bool.{Bool, _&&_, not}
 use mathlib.Core.List.{List}
 use lib.Dec.{eqb}
+use Rattle.rect.specs.declared.planes.Shape.{Shape}
 use Rattle.rect.specs.declared.planes.Size.{Size}
+use Rattle.rect.specs.Rows.{sizeOf}
 use Rattle.answer.specs.declared.Refusal.the-variants.{WrongLength, NotExpected}
 use Rattle.entry.specs.declared.Entry.{Entry}
 use Rattle.entry.specs.Entry.{block, code, content, ranked}
@@ -18,7 +20,7 @@ use Rattle.chunk.specs.LayerInformation.{layerSize, layerOf, layerFault}
 use Rattle.chunk.specs.ChannelInformation.{channelSize, channelOf, codesFault, planeFault}
 use Rattle.memory.specs.declared.state.State.{State}
 use Rattle.memory.specs.Codes.{isExpected, hasCodes}
-use Rattle.memory.specs.State.{withLayer, withChannel, sizeFor}
+use Rattle.memory.specs.State.{withLayer, withChannel, shapeFor}
 use Rattle.kinds.specs.Blocks.{Judged, unless, permitted}
 
 -- ### Layer, id 4: its header and its chunk
@@ -54,16 +56,16 @@ channelRead s st at level c size =
     Leaf (channelEntry level at (st .layer .number) c size) (at + channelHead + c .stored) (withChannel c st))
 
 -- once it is expected
-unfoldable pub channelSized : List ℕ → State → ℕ → ℕ → ChannelChunk → Size → Judged
-channelSized s st at level c size =
-    permitted (planeFault (size .plane) c) (at + blockHeaderSize) (channelRead s st at level c size)
+unfoldable pub channelSized : List ℕ → State → ℕ → ℕ → ChannelChunk → Shape → Judged
+channelSized s st at level c shape =
+    permitted (planeFault shape c) (at + blockHeaderSize) (channelRead s st at level c (sizeOf shape (c .plane)))
 
 -- once its total is good
 unfoldable pub channelCoded : List ℕ → State → ℕ → ℕ → ChannelChunk → Judged
 channelCoded s st at level c =
     permitted (codesFault c) (at + blockHeaderSize)
     (unless (isAwaited st c) (Stop NotExpected at)
-    (channelSized s st at level c (sizeFor (st .layer) (st .image .depth) (c .bitmap))))
+    (channelSized s st at level c (shapeFor (st .layer) (st .image .depth) (c .bitmap))))
 
 abbrev pub channelJudged : List ℕ → State → ℕ → ℕ → ℕ → ChannelChunk → Judged
 channelJudged s st total at level c = unless (eqb total (channelSize + c .stored)) (Stop WrongLength at) (channelCoded s st at level c)

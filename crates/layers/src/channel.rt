@@ -14,7 +14,7 @@ use rect::Size;
 ghost use mathlib.Core.Path.{_≡_};
 ghost use Prim.Native.Nat.{_+_, _<_, _^_};
 ghost use Rattle.chunk.specs.Heads.{channelHead};
-ghost use Rattle.memory.specs.State.{sizeFor};
+ghost use Rattle.memory.specs.State.{shapeFor};
 ghost use Rattle.kinds.specs.Headed.{Headed};
 ghost use Rattle.kinds.specs.Blocks.{told};
 ghost use Rattle.layers.specs.Layers.{isAwaited, channelEntry, channelSized, channelCoded, channelBlock};
@@ -57,10 +57,10 @@ fn channel_entry(level: usize, at: usize, layer: u32, c: ChannelChunk, size: Siz
 // Its plane length and its content, once it is expected.
 fn sized(s: &[u8], st: State, at: usize, level: usize, c: ChannelChunk) -> Step
     requires { ⌜ (Headed (now s) at level) × (0 < st .layer .left) ⌝ }
-    ensures { λ r. ⌜ told r ≡ channelSized (now (s .entry)) st at level c (sizeFor (st .layer) (st .image .depth) (c .bitmap)) ⌝ }
+    ensures { λ r. ⌜ told r ≡ channelSized (now (s .entry)) st at level c (shapeFor (st .layer) (st .image .depth) (c .bitmap)) ⌝ }
 {
-    let size = st.layer.size_for(st.image.depth, c.bitmap);
-    match c.judge_plane(size.plane) {
+    let shape = st.layer.shape_for(st.image.depth, c.bitmap);
+    match c.judge_plane(shape) {
         Fault::At(offset) => wrong_field(at + BlockHeader::SIZE, offset),
         Fault::None => {
             let content = at + HEAD;
@@ -72,7 +72,7 @@ fn sized(s: &[u8], st: State, at: usize, level: usize, c: ChannelChunk) -> Step
                 };
             }
             Step::Leaf {
-                entry: channel_entry(level, at, st.layer.number, c, size),
+                entry: channel_entry(level, at, st.layer.number, c, shape.size(c.plane)),
                 next,
                 state: st.with_channel(c),
             }

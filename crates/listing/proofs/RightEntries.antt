@@ -30,7 +30,7 @@ use Rattle.block.proofs.Owed.{moves}
 use Rattle.block.proofs.Stepped.{Stepped, leafed, nested, OfHeader}
 use Rattle.listing.specs.Listing.{headOf, beyond, listing, listed}
 use Rattle.listing.specs.Right as right
-use Rattle.listing.specs.Right.{isLayer, layersIn, Full, Right, Headed}
+use Rattle.listing.specs.Right.{isLayer, isChannel, layersIn, depthOf, Full, RowTaken, Right, Headed}
 use Rattle.listing.proofs.StateMeaning.{CameTo, fresh, Whole, whole, kept, rights, looked}
 
 -- behind a good header the blocks are walked, and no other header is accepted
@@ -89,6 +89,12 @@ pub layers-numbered :
     (s : List ℕ) (room : ℕ)
     → let es = listed s room .entries in (k : ℕ) (d : Entry) → k < length es → isLayer (getD es k d) ≡ true → getD es k d .layer ≡ layersIn (take k es)
 layers-numbered s room k d h z = ap (λ (e : Entry). e .layer) (each-right s room k d h .layer z .is)
+
+-- a channel's row is one of its forms, the padded one wherever that makes the plane, and its plane length is row times height
+pub rows-taken :
+    (s : List ℕ) (room : ℕ)
+    → let es = listed s room .entries in (k : ℕ) (d : Entry) → k < length es → isChannel (getD es k d) ≡ true → RowTaken (depthOf s) (getD es k d)
+rows-taken s room k d h z = each-right s room k d h .channel z .row
 
 accepted-whole : (s : List ℕ) (room : ℕ) → listed s room .answer ≡ Accepted → Whole s (listed s room .entries)
 accepted-whole s room =

@@ -16,8 +16,9 @@ use Rattle.laws.proofs.Choice.{pick-ind}
 use Rattle.laws.proofs.Filter.{filter-more, filter-same}
 use Rattle.laws.proofs.Tests.{both, either, never, less-or-not}
 use Rattle.laws.proofs.Along.{along-more}
-use Rattle.rect.specs.declared.planes.Size.{Size}
-use Rattle.rect.specs.Rows.{sidesOf, sizeOf}
+use Rattle.rect.specs.declared.planes.Shape.{Shape}
+use Rattle.rect.specs.Rows.{sidesOf, shapeOf, isPlane, rowFor, Taken, sizeOf}
+use Rattle.rect.proofs.Forms.{taken}
 use Rattle.entry.specs.declared.Code.{Code}
 use Rattle.entry.specs.declared.Entry.{Entry}
 use Rattle.entry.specs.Entry.{keep, block, code, content, plain, ranked, filled}
@@ -30,7 +31,7 @@ use Rattle.headers.specs.BlockHeader.{blockHeaderSize}
 use Rattle.headers.specs.FileHeader.{fileHeaderSize}
 use Rattle.headers.specs.Places.{imagePlace}
 use Rattle.attributes.specs.declared.fault.Fault.the-variants.{None}
-use Rattle.attributes.specs.Depth.{isDepth}
+use Rattle.attributes.specs.Depth.{isDepth, colourShort}
 use Rattle.attributes.specs.ImageAttributes.{isPaletted}
 use Rattle.attributes.proofs.Rules.{image-rules, four, colour-bits}
 use Rattle.chunk.specs.declared.layer_information.LayerChunk.{LayerChunk}
@@ -47,26 +48,29 @@ use Rattle.memory.specs.declared.state.Announced.{Announced}
 use Rattle.memory.specs.declared.state.Current.{Current}
 use Rattle.memory.specs.Codes.{isExpected, hasColours}
 use Rattle.memory.specs.Parent.{main, levelOf, parentAt}
-use Rattle.memory.specs.State.{start, announcedBy, withImage, withPalette, withBank, withLayer, withChannel, sizeFor, isFull}
+use Rattle.memory.specs.State.{start, announcedBy, withImage, withPalette, withBank, withLayer, withChannel, shapeFor, isFull}
 use Rattle.memory.proofs.Parents.{Held, by-main, by-bank, by-layer, held}
 use Rattle.kinds.specs.Blocks.{skippedBy}
 use Rattle.layers.specs.Layers.{channelEntry, isAwaited}
 use Rattle.block.specs.Step.{stepAt}
 use Rattle.block.proofs.Stepped.{IsPalette, IsSkip, an-image, a-palette, a-channel, a-skip, a-bank, a-layer, Stepped, accepted, ended, leafed, nested, stepped}
-use Rattle.listing.specs.Right.{isKind, isPalette, isBank, isLayer, isChannel, layersIn, codesIn, imageIn, depthOf, layerFrom, Awaited, Full, ImageRight, savedOf, bitsOf, Right}
+use Rattle.listing.specs.Right.{isKind, isPalette, isBank, isLayer, isChannel, layersIn, codesIn, imageIn, depthOf, layerFrom, Awaited, Full, ImageRight, savedOf, bitsOf, shortOf, Right}
 use Rattle.listing.proofs.CodesRemembered.{Came, came-none, came-more, came-once, came-coloured, expected-ind}
 
--- ### Sizes
+-- ### Shapes
 
--- the size that the rules compute of what they remember of a layer is the size of its rectangle
-size-right :
+-- the shape of a bitmap's planes in a layer, and that the rules compute this one of what they remember
+abbrev shapeIn : LayerChunk → ℕ → ℕ → Shape
+shapeIn c depth bitmap = shapeOf (sidesOf (savedOf c bitmap)) (bitsOf depth bitmap) (shortOf depth bitmap)
+
+shape-right :
     (depth : ℕ) → isDepth depth ≡ true → (c : LayerChunk) (l : Current) → l .image ≡ sidesOf (c .image .saved) → l .mask ≡ sidesOf (c .mask .saved)
-    → (b k : ℕ) → isExpected depth b k ≡ true → sizeFor l depth b ≡ sizeOf (sidesOf (savedOf c b)) (bitsOf depth b)
-unfolding sizeFor pick
-size-right depth good c l image mask b k =
-    let colour : sizeFor l depth 0 ≡ sizeOf (sidesOf (savedOf c 0)) (bitsOf depth 0) = λ i. sizeOf (image i) (colour-bits depth good i) in
-    expected-ind (λ (x y : ℕ). sizeFor l depth x ≡ sizeOf (sidesOf (savedOf c x)) (bitsOf depth x))
-    colour colour colour colour (λ i. sizeOf (image i) 8) (λ i. sizeOf (mask i) 8) depth b k
+    → (b k : ℕ) → isExpected depth b k ≡ true → shapeFor l depth b ≡ shapeIn c depth b
+unfolding shapeFor pick
+shape-right depth good c l image mask b k =
+    let colour : shapeFor l depth 0 ≡ shapeIn c depth 0 = λ i. shapeOf (image i) (colour-bits depth good i) (colourShort depth) in
+    expected-ind (λ (x y : ℕ). shapeFor l depth x ≡ shapeIn c depth x)
+    colour colour colour colour (λ i. shapeOf (image i) 8 true) (λ i. shapeOf (mask i) 8 true) depth b k
 
 bitmap-high : (depth b k : ℕ) → isExpected depth b k ≡ true → b ≤ 2
 bitmap-high =
@@ -473,11 +477,11 @@ module _ (s : List ℕ) where
     abbrev its-layer : InLayer es (st .layer)
     its-layer = u .in-layer refl
 
-    abbrev size : Size
-    size = sizeFor (st .layer) (st .image .depth) (c .bitmap)
+    abbrev shape : Shape
+    shape = shapeFor (st .layer) (st .image .depth) (c .bitmap)
 
     abbrev channel-entry : Entry
-    channel-entry = channelEntry 2 at (st .layer .number) c size
+    channel-entry = channelEntry 2 at (st .layer .number) c (sizeOf shape (c .plane))
 
     expected : isExpected (depthOf s) (c .bitmap) (c .channel) ≡ true
     expected =
@@ -522,13 +526,14 @@ module _ (s : List ℕ) where
               closed-more (Full s) 2 es channel-entry refl (u .closed) (record { bank = λ z. never z; layer = λ z. never z });
         }
 
-    size-is : size ≡ sizeOf (sidesOf (savedOf (layerFrom s (its-layer .layer .block .place)) (c .bitmap))) (bitsOf (depthOf s) (c .bitmap))
-    size-is =
-        ap (λ (d : ℕ). sizeFor (st .layer) d (c .bitmap)) (depth-is u)
-        ∙ size-right (depthOf s) (depth-good u) (layerFrom s (its-layer .layer .block .place)) (st .layer) (its-layer .image) (its-layer .mask) (c .bitmap) (c .channel) expected
+    shape-is : shape ≡ shapeIn (layerFrom s (its-layer .layer .block .place)) (depthOf s) (c .bitmap)
+    shape-is =
+        ap (λ (d : ℕ). shapeFor (st .layer) d (c .bitmap)) (depth-is u)
+        ∙ shape-right (depthOf s) (depth-good u) (layerFrom s (its-layer .layer .block .place)) (st .layer) (its-layer .image) (its-layer .mask) (c .bitmap) (c .channel) expected
 
     channel-right :
-        c ≡ channelAt s (at + blockHeaderSize) → at + channelHead + c .stored ≤ length s → c .plane ≡ size .plane → Right s es channel-entry
+        c ≡ channelAt s (at + blockHeaderSize) → at + channelHead + c .stored ≤ length s → isPlane shape (c .plane) ≡ true → Right s es channel-entry
+    unfolding sizeOf
     channel-right is present plane = record {
       image = u .known .image;
       first = λ z. absurd (u .known .some z);
@@ -553,8 +558,12 @@ module _ (s : List ℕ) where
         owned = refl;
         start = refl;
         inside = present;
-        size = size-is;
-        plane-field = sym plane ∙ ap (λ (x : ChannelChunk). x .plane) is;
+        width = ap (λ (f : Shape). f .sides .width) shape-is;
+        height = ap (λ (f : Shape). f .sides .height) shape-is;
+        plane = ap (λ (x : ChannelChunk). x .plane) is;
+        row =
+            subst (λ (f : Shape). Taken (shapeOf (shape .sides) (f .bits) (f .short)) (c .plane) (rowFor shape (c .plane))) shape-is
+            (taken shape (c .plane) plane);
       };
       skipped = λ z. absurd (omega arith);
     }
@@ -647,7 +656,7 @@ module _ (s : List ℕ) where
       let c = i .chunk in
       let v = subst (λ (l : ℕ). Underway l es st) (i .deepest) u in
       step es (i .deepest)
-      (i .entry ∙ ap (λ (l : ℕ). channelEntry (levelOf l) at (st .layer .number) c (sizeFor (st .layer) (st .image .depth) (c .bitmap))) (i .deepest)) (i .state)
+      (i .entry ∙ ap (λ (l : ℕ). channelEntry (levelOf l) at (st .layer .number) c (sizeOf (shapeFor (st .layer) (st .image .depth) (c .bitmap)) (c .plane))) (i .deepest)) (i .state)
       (channel-passes v c (i .awaited) at (i .room))
       (channel-right v c (i .awaited) at (i .is) (i .present) (plane-rule _ c (i .plane)))
 

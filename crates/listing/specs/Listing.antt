@@ -58,7 +58,7 @@ listed s room = cut room (listing s)
 abbrev pub told : Listed → Told
 told a = record { number = answerNumber (a .answer); place = a .place; count = length (a .entries) }
 
--- what `list` leaves: thirteen numbers an entry, room rounded down; the entries stand in front of the table, and its rest is as it was
+-- what `list` leaves: fourteen numbers an entry, room rounded down; the entries stand in front of the table, and its rest is as it was
 abbrev pub tabled : Listed → List ℕ → List ℕ
 tabled a table = numbers (a .entries) ++ drop (size * length (a .entries)) table
 

@@ -10,7 +10,8 @@ use Rattle.laws.specs.Lists.{filter}
 use Rattle.laws.specs.All.{All}
 use Rattle.laws.specs.Along.{Along}
 use Rattle.rect.specs.declared.Rect.{Rect}
-use Rattle.rect.specs.Rows.{sidesOf, sizeOf}
+use Rattle.rect.specs.Rect.{widthOf, heightOf}
+use Rattle.rect.specs.Rows.{shapeOf, Taken}
 use Rattle.entry.specs.declared.Code.{Code}
 use Rattle.entry.specs.declared.Entry.{Entry}
 use Rattle.entry.specs.Entry.{block, code, content, plain, ranked, filled}
@@ -19,6 +20,7 @@ use Rattle.headers.specs.BlockHeader.{blockHeaderSize, blockHeaderAt}
 use Rattle.headers.specs.Places.{imagePlace, imageChunkPlace}
 use Rattle.attributes.specs.declared.fault.Fault.the-variants.{None}
 use Rattle.attributes.specs.declared.image_attributes.ImageChunk.{ImageChunk}
+use Rattle.attributes.specs.Depth.{colourShort}
 use Rattle.attributes.specs.ImageAttributes.{imageAt, imageFault, isPaletted}
 use Rattle.chunk.specs.declared.layer_information.LayerChunk.{LayerChunk}
 use Rattle.chunk.specs.Heads.{imageHead, paletteHead, layerHead, channelHead}
@@ -122,14 +124,25 @@ pub record LayerRight (s : List ℕ) (before : List Entry) (e : Entry) : Type 0 
   pub permitted : layerFault (depthOf s) (layerFrom s (e .block .place)) ≡ None
   pub inside : e .block .place + layerHead ≤ length s
 
--- the rectangle and the bits of a bitmap's planes: the user mask has the saved mask rectangle, masks have 8 bits
+-- the rectangle of a bitmap's planes, their bits, and whether their rows may be short: the user mask has the saved mask rectangle; masks
+-- have 8 bits, and may have short rows at any depth
 abbrev pub savedOf : LayerChunk → ℕ → Rect
 savedOf c bitmap = pick (eqb bitmap 2) (c .mask .saved) (c .image .saved)
 
 abbrev pub bitsOf : ℕ → ℕ → ℕ
 bitsOf depth bitmap = pick (eqb bitmap 0) (cond (ltb depth 24) depth 8) 8
 
--- a channel: the last layer holds it, it is expected there, its content lies inside the input, and its size is that of the layer's rectangle
+abbrev pub shortOf : ℕ → ℕ → Bool
+shortOf depth bitmap = pick (eqb bitmap 0) (colourShort depth) true
+
+-- a channel's row, by the other numbers of its entry
+abbrev pub RowTaken : ℕ → Entry → Type 0
+RowTaken depth e =
+    Taken (shapeOf (record { width = e .size .width; height = e .size .height }) (bitsOf depth (e .code .bitmap)) (shortOf depth (e .code .bitmap)))
+    (e .size .plane) (e .size .row)
+
+-- a channel: the last layer holds it, it is expected there, its content lies inside the input, its sides are those of the layer's
+-- rectangle, its plane length is the chunk's, and its row is the first form that makes such a plane
 pub record ChannelRight (s : List ℕ) (before : List Entry) (e : Entry) : Type 0 where
   pub layer : Entry
   pub others : List Entry
@@ -147,8 +160,10 @@ pub record ChannelRight (s : List ℕ) (before : List Entry) (e : Entry) : Type 
   pub owned : e .block .owned ≡ channelHead + e .content .stored
   pub start : e .content .start ≡ e .block .place + channelHead
   pub inside : e .content .start + e .content .stored ≤ length s
-  pub size : e .size ≡ sizeOf (sidesOf (savedOf (layerFrom s (layer .block .place)) (e .code .bitmap))) (bitsOf (depthOf s) (e .code .bitmap))
-  pub plane-field : e .size .plane ≡ channelAt s (e .block .place + blockHeaderSize) .plane
+  pub width : e .size .width ≡ widthOf (savedOf (layerFrom s (layer .block .place)) (e .code .bitmap))
+  pub height : e .size .height ≡ heightOf (savedOf (layerFrom s (layer .block .place)) (e .code .bitmap))
+  pub plane : e .size .plane ≡ channelAt s (e .block .place + blockHeaderSize) .plane
+  pub row : RowTaken (depthOf s) e
 
 -- a skipped block: all behind its header is its content; a palette is skipped at depth 24 only
 pub record SkipRight (s : List ℕ) (e : Entry) : Type 0 where

@@ -45,7 +45,7 @@ fn walk(input: &[u8], room: usize, table: &mut [u32], question: Question) -> Out
     )
 }
 
-// Lists an input into a table of 32-bit numbers, thirteen an entry, its room rounded down. Count entries stand in front of the table,
+// Lists an input into a table of 32-bit numbers, fourteen an entry, its room rounded down. Count entries stand in front of the table,
 // whatever the answer; nothing behind them changes.
 pub fn list(input: &[u8], table: &mut [u32]) -> Outcome
     ensures { λ r. ⌜ result r (now (table .exit)) ≡ lists (now (input .entry)) (now (table .entry)) ⌝ }

@@ -3,10 +3,10 @@ use Prim.Native.Nat.{ℕ, _+_, _-_}
 use mathlib.Core.Bool.{Bool, true, false, _&&_, _||_, not}
 use lib.Dec.{eqb, leb}
 use Rattle.laws.specs.Choice.{pick}
-use Rattle.rect.specs.declared.planes.Size.{Size}
-use Rattle.rect.specs.Rows.{sidesOf, sizeOf, noSides}
+use Rattle.rect.specs.declared.planes.Shape.{Shape}
+use Rattle.rect.specs.Rows.{sidesOf, shapeOf, noSides}
 use Rattle.attributes.specs.declared.image_attributes.ImageChunk.{ImageChunk}
-use Rattle.attributes.specs.Depth.{colourBits}
+use Rattle.attributes.specs.Depth.{colourBits, colourShort}
 use Rattle.attributes.specs.ImageAttributes.{isPaletted}
 use Rattle.chunk.specs.declared.layer_information.LayerChunk.{LayerChunk}
 use Rattle.chunk.specs.declared.channel_information.ChannelChunk.{ChannelChunk}
@@ -67,11 +67,12 @@ channelBy c l = record {
 abbrev pub withChannel : ChannelChunk → State → State
 withChannel c st = record { image = st .image; palette = st .palette; bank = st .bank; found = st .found; layer = channelBy c (st .layer) }
 
--- the size of a bitmap's planes. Bitmap 2 has the saved mask rectangle, 0 and 1 have the saved image rectangle; colours have the bits of
--- the image's depth, masks 8
-unfoldable pub sizeFor : Current → ℕ → ℕ → Size
-sizeFor l depth bitmap =
-    pick (eqb bitmap 2) (sizeOf (l .mask) 8) (pick (eqb bitmap 1) (sizeOf (l .image) 8) (sizeOf (l .image) (colourBits depth)))
+-- the shape of a bitmap's planes. Bitmap 2 has the saved mask rectangle, 0 and 1 have the saved image rectangle. Colours have the bits of
+-- the image's depth, and may have short rows at depth 8 and 24; masks have 8 bits, and may have short rows at any depth
+unfoldable pub shapeFor : Current → ℕ → ℕ → Shape
+shapeFor l depth bitmap =
+    pick (eqb bitmap 0) (shapeOf (l .image) (colourBits depth) (colourShort depth))
+    (shapeOf (pick (eqb bitmap 2) (l .mask) (l .image)) 8 true)
 
 -- one layer (id 4) or channel (id 5) more than announced
 abbrev pub isSurplus : State → ℕ → Bool

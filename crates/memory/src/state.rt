@@ -5,12 +5,12 @@ use attributes::depth;
 use attributes::image_attributes::ImageChunk;
 use chunk::channel_information::ChannelChunk;
 use chunk::layer_information::LayerChunk;
+use rect::Shape;
 use rect::Sides;
-use rect::Size;
 ghost use mathlib.Core.Path.{_≡_};
-ghost use Prim.Native.Nat.{_<_};
+ghost use Prim.Native.Nat.{_≤_, _<_};
 ghost use Rattle.chunk.specs.Rules.{LayerRules};
-ghost use Rattle.memory.specs.State.{announcedBy, withImage, withPalette, withBank, layerBy, withLayer, channelBy, withChannel, sizeFor, isSurplus, isFull};
+ghost use Rattle.memory.specs.State.{announcedBy, withImage, withPalette, withBank, layerBy, withLayer, channelBy, withChannel, shapeFor, isSurplus, isFull};
 
 // What the image chunk announces: its depth, which is 0 until the chunk has come, whether it wants a palette, and its layer count.
 pub struct Announced {
@@ -86,17 +86,22 @@ impl Current {
         layer
     }
 
-    // The size of a bitmap's planes in an image of this depth.
-    pub fn size_for(self, depth: u16, bitmap: u16) -> Size
-        ensures { λ r. ⌜ r ≡ sizeFor self depth bitmap ⌝ }
+    // The shape of a bitmap's planes in an image of this depth.
+    pub fn shape_for(self, depth: u16, bitmap: u16) -> Shape
+        ensures { λ r. ⌜ (r ≡ shapeFor self depth bitmap) × (r .bits ≤ 8) ⌝ }
     {
-        if bitmap == 2 {
-            return self.mask.size(8);
+        if bitmap == 0 {
+            return Shape {
+                sides: self.image,
+                bits: depth::bits(depth),
+                short: depth::short(depth),
+            };
         }
-        if bitmap == 1 {
-            return self.image.size(8);
+        Shape {
+            sides: if bitmap == 2 { self.mask } else { self.image },
+            bits: 8,
+            short: true,
         }
-        self.image.size(depth::bits(depth))
     }
 }
 

@@ -215,9 +215,10 @@ pack-refuses plane dest =
     pick-ind R _ _ _ (λ _. refused-as _ (omega arith) (omega arith)) (λ _. well-as _ refl))
 
 pub place-refuses :
-    (width height : ℕ) (canvas : List ℕ) (r : Rect) (plane : List ℕ) → Refuses (λ (n : ℕ). n) 40 42 canvas (placed width height canvas r plane)
+    (width height : ℕ) (canvas : List ℕ) (r : Rect) (plane : List ℕ) (row : ℕ)
+    → Refuses (λ (n : ℕ). n) 40 42 canvas (placed width height canvas r plane row)
 unfolding placed
-place-refuses width height canvas r plane =
+place-refuses width height canvas r plane row =
     let R = Refuses (λ (n : ℕ). n) 40 42 canvas in
     pick-ind R _ _ _ (λ _. refused-as 40 (omega arith) (omega arith)) (λ _.
     pick-ind R _ _ _ (λ _. refused-as 41 (omega arith) (omega arith)) (λ _.

@@ -1,5 +1,5 @@
--- Demand 2: the table is the one that the specification gives, as document 01 reads it; a plane is the bytes that its packets mean, and
--- a plane that was packed reads back as itself.
+-- Demand 2: the table is the one that the specification gives, as document 01 reads it and document 02's requests change it; a plane is the
+-- bytes that its packets mean, and a plane that was packed reads back as itself.
 use mathlib.Core.Path.{_≡_}
 use mathlib.Core.List.{List}
 use Prim.Native.Nat.{ℕ, _+_, _≤_, _<_}
@@ -25,7 +25,7 @@ pub record InOrder (es : List Entry) : Type 0 where
   -- layers count 0, 1, 2 ..
   pub layer-numbers : (k : ℕ) (d : Entry) → k < layersIn es → getD (filter isLayer es) k d .layer ≡ k
 
--- each entry is the one that document 01's rules give for the bytes at its place, by the entries before it and by its own header
+-- each entry is the one that the rules give for the bytes at its place, by the entries before it and by its own header
 abbrev pub EachRight : List ℕ → List Entry → Type 0
 EachRight s es = (k : ℕ) (d : Entry) → k < length es → Right s (take k es) (getD es k d) × Headed s (getD es k d)
 

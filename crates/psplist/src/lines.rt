@@ -119,6 +119,7 @@ fn channel(e: Entry) {
     number(e.size.width);
     number(e.size.height);
     number(e.size.plane);
+    number(e.size.row);
 }
 
 fn number(n: u32) {

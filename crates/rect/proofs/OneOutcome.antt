@@ -4,9 +4,10 @@ use Rattle.laws.proofs.OneOutcome.{one}
 use Rattle.rect.proofs.Rect.decode.Reads as decode
 use Rattle.rect.proofs.intersection.intersect.Reads as intersect
 use Rattle.rect.proofs.planes.row_bytes.Reads as row-bytes
-use Rattle.rect.proofs.planes.plane_length.Reads as plane-length
+use Rattle.rect.proofs.planes.is_form.Reads as is-form
 use Rattle.rect.proofs.planes.Sides.of.Reads as sides
-use Rattle.rect.proofs.planes.Sides.size.Reads as size
+use Rattle.rect.proofs.planes.Shape.permits.Reads as permits
+use Rattle.rect.proofs.planes.Shape.size.Reads as size
 use Rattle.rect.proofs.rules.proper.Reads as proper
 use Rattle.rect.proofs.rules.empty.Reads as empty
 use Rattle.rect.proofs.rules.inside.Reads as inside
@@ -44,16 +45,19 @@ pub height-one : OneResult height.Learnt
 height-one l a y z e f p q = one (p .0) (q .0)
 
 pub row-bytes-one : OneResult row-bytes.Learnt
-row-bytes-one l a y z e f = one
+row-bytes-one l a y z e f p q = one (p .0) (q .0)
 
-pub plane-length-one : OneResult plane-length.Learnt
-plane-length-one l a y z e f p q = one (p .0) (q .0)
+pub is-form-one : OneResult is-form.Learnt
+is-form-one l a y z e f = one
 
 pub intersect-one : OneResult intersect.Learnt
 intersect-one l a y z e f = one
 
 pub sides-one : OneResult sides.Learnt
 sides-one l a y z e f = one
+
+pub permits-one : OneResult permits.Learnt
+permits-one l a y z e f = one
 
 pub size-one : OneResult size.Learnt
 size-one l a y z e f = one

@@ -6,10 +6,10 @@ mod rules;
 mod sides;
 
 pub use intersection::intersect;
+pub use planes::Shape;
 pub use planes::Sides;
 pub use planes::Size;
-pub use planes::plane_length;
-pub use planes::row_bytes;
+pub use planes::is_form;
 pub use rules::empty;
 pub use rules::inside;
 pub use rules::proper;

@@ -3,9 +3,9 @@
 use printing::text;
 use rect::Rect;
 
-fn place(asked: &[u8], width: u32, height: u32, r: Rect, plane: &[u8]) {
+fn place(asked: &[u8], width: u32, height: u32, r: Rect, plane: &[u8], row: u32) {
     let mut canvas = [238u8; 6];
-    let a = canvas::place(width, height, &mut canvas, r, plane);
+    let a = canvas::place(width, height, &mut canvas, r, plane, row);
     text(asked);
     printing::number(a.number() as u64);
     text(b" |");
@@ -26,5 +26,6 @@ fn main() {
         2,
         r,
         b"\x10\x11\x00\x00",
+        4,
     );
 }

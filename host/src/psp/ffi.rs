@@ -2,8 +2,8 @@
 
 use std::os::raw::c_double;
 
-/// PSP_VERSION: 0.2.0, as major times 10,000, minor times 100, patch.
-pub const VERSION: u32 = 200;
+/// PSP_VERSION: 0.3.0, as major times 10,000, minor times 100, patch.
+pub const VERSION: u32 = 300;
 
 // Every function: all is well.
 pub const ACCEPTED: u32 = 0;
@@ -51,25 +51,40 @@ pub const INPUT_LIMIT: usize = 67_108_864;
 pub const PLANE_LIMIT: usize = 16_777_216;
 pub const SIDE_LIMIT: u32 = 4_096;
 pub const LAYER_LIMIT: u32 = 64;
-pub const ENTRY_NUMBERS: usize = 13;
+pub const ENTRY_NUMBERS: usize = 14;
 
-/// An entry of the table: a block of the file.
+/// An entry of the table: a block of the file. What a kind does not fill is 0.
 #[repr(C)]
 #[derive(Clone, Copy, Debug, Default, PartialEq, Eq)]
 pub struct Entry {
+    /// 0 image, 2 palette, 3 bank, 4 layer, 5 channel; any id when skipped.
     pub id: u32,
+    /// 0 or 1.
     pub skipped: u32,
+    /// 0 main, 1 in the bank, 2 in a layer.
     pub level: u32,
+    /// Where the block's header starts.
     pub place: u32,
+    /// Bytes owned.
     pub owned: u32,
+    /// Layers count from 0 in file order.
     pub layer: u32,
+    /// 0 image, 1 transparency mask, 2 user mask.
     pub bitmap: u32,
+    /// 0 composite, 1 red, 2 green, 3 blue.
     pub channel: u32,
+    /// Content start.
     pub start: u32,
+    /// Stored length.
     pub stored: u32,
+    /// Of the plane, in pixels.
     pub width: u32,
+    /// Of the plane, in rows.
     pub height: u32,
+    /// Plane length in bytes: row times height.
     pub plane: u32,
+    /// Bytes of a row: padded to 4, or the width itself.
+    pub row: u32,
 }
 
 /// The answer of a listing.
@@ -236,6 +251,7 @@ extern "C" {
         r: Rect,
         plane: *const u8,
         length: usize,
+        row: u32,
     ) -> u32;
     pub fn psp_intersect(a: Rect, b: Rect) -> Rect;
     pub fn psp_palette(
@@ -260,7 +276,7 @@ mod tests {
     /// The sizes that a C compiler gives the structs of psp.h on a 64-bit machine.
     #[test]
     fn structs_have_the_sizes_of_the_header() {
-        assert_eq!(size_of::<Entry>(), 52);
+        assert_eq!(size_of::<Entry>(), 56);
         assert_eq!(size_of::<Listed>(), 24);
         assert_eq!(size_of::<Plane>(), 24);
         assert_eq!(size_of::<Packed>(), 16);
@@ -282,8 +298,12 @@ mod tests {
             let line = format!("#define PSP_VERSION_{} {}\n", name, part);
             assert!(header.contains(&line), "include/psp.h: {}", line);
         }
-        let line = format!("\nversion = \"{}.{}.{}\"\n", major, minor, patch);
+        let version = format!("{}.{}.{}", major, minor, patch);
+        let line = format!("\nversion = \"{}\"\n", version);
         assert!(include_str!("Cargo.toml").contains(&line), "{}", line);
+        let line = format!("\nconst VERSION: &str = \"{}\";\n", version);
+        let command = include_str!("../main.rs");
+        assert!(command.contains(&line), "main.rs: {}", line);
         let line = format!("const VERSION: u32 = {};\n", VERSION);
         let library = include_str!("../../../crates/psp/src/version.rt");
         assert!(library.contains(&line), "version.rt: {}", line);

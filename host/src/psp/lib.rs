@@ -38,7 +38,7 @@ pub fn version() -> Version {
     }
 }
 
-/// Lists an input into a table of numbers, thirteen an entry, and gives the count of entries. They
+/// Lists an input into a table of numbers, fourteen an entry, and gives the count of entries. They
 /// stand in front of the table, also those found before a refusal, and its rest is untouched.
 pub fn list(input: &[u8], table: &mut [u32]) -> Result<usize, RefusedListing> {
     listed(numbers::list(input, table))
@@ -85,15 +85,17 @@ pub fn pack(plane: &[u8], dest: &mut [u8]) -> Result<usize, Refusal> {
     good(packed.number, packed.length)
 }
 
-/// Places an 8-bit plane of rectangle `r` on a canvas of one byte a pixel.
+/// Places an 8-bit plane of rectangle `r` on a canvas of one byte a pixel. A row has `row` bytes, as
+/// the entry says: the rectangle's width, or that padded to 4.
 pub fn place(
     width: u32,
     height: u32,
     canvas: &mut [u8],
     r: Rect,
     plane: &[u8],
+    row: u32,
 ) -> Result<(), Refusal> {
-    good(numbers::place(width, height, canvas, r, plane), ())
+    good(numbers::place(width, height, canvas, r, plane, row), ())
 }
 
 /// Gives the pixels that two rectangles share, and 0,0,0,0 where there are none.

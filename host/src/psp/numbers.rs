@@ -22,7 +22,7 @@ pub fn version() -> u32 {
     unsafe { ffi::psp_version() }
 }
 
-/// Lists an input into a table of numbers, thirteen an entry; the rest of the table is untouched.
+/// Lists an input into a table of numbers, fourteen an entry; the rest of the table is untouched.
 pub fn list(input: &[u8], table: &mut [u32]) -> Listed {
     // SAFETY: both slices are valid for their lengths, and the table is borrowed alone.
     unsafe { ffi::psp_list(input.as_ptr(), input.len(), table.as_mut_ptr(), table.len()) }
@@ -93,8 +93,9 @@ pub fn pack(plane: &[u8], dest: &mut [u8]) -> Packed {
     unsafe { ffi::psp_pack(plane.as_ptr(), plane.len(), dest.as_mut_ptr(), dest.len()) }
 }
 
-/// Places an 8-bit plane of rectangle `r` on a canvas of one byte a pixel; gives the number.
-pub fn place(width: u32, height: u32, canvas: &mut [u8], r: Rect, plane: &[u8]) -> u32 {
+/// Places an 8-bit plane of rectangle `r` on a canvas of one byte a pixel; a row has `row` bytes, as
+/// the entry says. Gives the number.
+pub fn place(width: u32, height: u32, canvas: &mut [u8], r: Rect, plane: &[u8], row: u32) -> u32 {
     // SAFETY: both slices are valid for their lengths, and the canvas is borrowed alone.
     unsafe {
         ffi::psp_place(
@@ -105,6 +106,7 @@ pub fn place(width: u32, height: u32, canvas: &mut [u8], r: Rect, plane: &[u8]) 
             r,
             plane.as_ptr(),
             plane.len(),
+            row,
         )
     }
 }

@@ -72,7 +72,7 @@ refusals! {
     PackOverLimit, PACK_OVER_LIMIT, "plane over the limit";
     CanvasWrong, CANVAS_WRONG, "no such canvas: its sides, or its length";
     RectWrong, RECT_WRONG, "no such rectangle";
-    PlaneWrong, PLANE_WRONG, "a plane that is not the rectangle's";
+    PlaneWrong, PLANE_WRONG, "a row or a plane that is not the rectangle's";
     NoPalette, NO_PALETTE, "depth 24";
     NoRamp, NO_RAMP, "a ramp of another length than 1,024 would have to stand in";
     NoLayer, NO_LAYER, "k is past the last layer";

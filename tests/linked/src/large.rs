@@ -1,14 +1,15 @@
 //! Cases that no payload could hold: inputs and planes at their limits and one
-//! byte over, and planes of 4,096 by 4,096 pixels of several sorts.
+//! byte over, and planes of 4,096 by 4,096 pixels of several sorts, placed in
+//! both forms.
 
-use reference::case::{Case, Stored};
+use reference::case::{Case, Placing, Stored};
 use reference::cases::every_listing;
 use reference::psp::planes::packed_form;
 use reference::psp::rectangle::Rectangle;
 use reference::psp::{INPUT_LIMIT, PLANE_LIMIT};
 use reference::random::Random;
 use reference::samples;
-use reference::write::Node;
+use reference::write::{Form, Node};
 
 const SIDE: i32 = 4_096;
 const PLANE: usize = PLANE_LIMIT as usize;
@@ -61,7 +62,10 @@ fn planes(plane: &[u8], give: &mut impl FnMut(Case)) {
     stored(plane, 0, plane.len(), give);
     stored(&packed, 1, plane.len(), give);
     for shift in [0, 1, -1_000, 4_095, 4_096] {
-        give(placed(plane, shift));
+        give(placed(plane, SIDE, Form::Padded, shift));
+        for form in Form::BOTH {
+            give(placed(plane, SIDE - 1, form, shift));
+        }
     }
 }
 
@@ -84,14 +88,19 @@ fn stored(content: &[u8], code: u32, plane: usize, give: &mut impl FnMut(Case)) 
     }
 }
 
-/// The plane on the largest canvas, moved to the right and up.
-fn placed(plane: &[u8], shift: i32) -> Case {
+/// As many rows of the plane as it has, on the largest canvas, moved to the
+/// right and up.
+fn placed(plane: &[u8], width: i32, form: Form, shift: i32) -> Case {
+    let row = form.row(width as u64, 8) as usize;
     Case::Canvas {
-        width: SIDE as u32,
-        height: SIDE as u32,
-        rectangle: Rectangle::new(shift, -shift, SIDE + shift, SIDE - shift),
+        placing: Placing {
+            width: SIDE as u32,
+            height: SIDE as u32,
+            rectangle: Rectangle::new(shift, -shift, width + shift, SIDE - shift),
+            row: row as u32,
+        },
         canvas: vec![0xEE; PLANE],
-        plane: plane.to_vec(),
+        plane: plane[..row * SIDE as usize].to_vec(),
     }
 }
 

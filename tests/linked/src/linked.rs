@@ -2,7 +2,7 @@
 //! the reference's form field by field, refusals as they come.
 
 use psp::{ffi, numbers};
-use reference::case::Stored;
+use reference::case::{Placing, Stored};
 use reference::library::{Library, Listed, Record};
 use reference::psp::chunks::{ImageChunk, LayerChunk, Resolution};
 use reference::psp::planes::PlaneAnswer;
@@ -43,7 +43,7 @@ fn to_rectangle(rect: numbers::Rect) -> Rectangle {
 }
 
 fn to_entry(record: &Record) -> numbers::Entry {
-    let [id, skipped, level, place, owned, layer, bitmap, channel, start, stored, width, height, plane] =
+    let [id, skipped, level, place, owned, layer, bitmap, channel, start, stored, width, height, plane, row] =
         *record;
     numbers::Entry {
         id,
@@ -59,6 +59,7 @@ fn to_entry(record: &Record) -> numbers::Entry {
         width,
         height,
         plane,
+        row,
     }
 }
 
@@ -77,6 +78,7 @@ fn to_record(entry: &numbers::Entry) -> Record {
         entry.width,
         entry.height,
         entry.plane,
+        entry.row,
     ]
 }
 
@@ -172,8 +174,10 @@ impl Library for Linked {
         (packed.number, packed.length as u64)
     }
 
-    fn place(&self, sides: [u32; 2], canvas: &mut [u8], saved: Rectangle, plane: &[u8]) -> u32 {
-        numbers::place(sides[0], sides[1], canvas, to_rect(saved), plane)
+    fn place(&self, placing: &Placing, canvas: &mut [u8], plane: &[u8]) -> u32 {
+        let (width, height) = (placing.width, placing.height);
+        let rect = to_rect(placing.rectangle);
+        numbers::place(width, height, canvas, rect, plane, placing.row)
     }
 
     fn intersect(&self, one: Rectangle, other: Rectangle) -> Rectangle {

@@ -15,6 +15,7 @@ use reference::case::Case;
 use reference::cases;
 use reference::compare::Comparison;
 use reference::library::{Library, Reference};
+use reference::psp::listing::ENTRY_NUMBERS;
 
 const USAGE: &str = "linked SEED COUNT, or linked long SEED COUNT";
 
@@ -76,11 +77,12 @@ fn compare(comparison: &mut Comparison, case: &Case) -> io::Result<()> {
 fn listed_otherwise(comparison: &mut Comparison, room: usize, input: &[u8]) -> io::Result<()> {
     let needed = Reference.count(input, room).2 as usize;
     let room = room.min(needed + 3);
-    let rest = input.len() % 13;
+    let rest = input.len() % ENTRY_NUMBERS;
+    let enough = room * ENTRY_NUMBERS + rest;
     for (numbers, slots) in [
-        (room * 13 + rest, room + 2),
-        (room * 13 + 26 + rest, room),
-        (room * 13 + rest, room / 2),
+        (enough, room + 2),
+        (enough + 2 * ENTRY_NUMBERS, room),
+        (enough, room / 2),
     ] {
         let got = records(&Linked, numbers, slots, input);
         let expected = records(&Reference, numbers, slots, input);

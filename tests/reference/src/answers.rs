@@ -79,14 +79,12 @@ fn answer_without_file(library: &dyn Library, case: &Case) -> Answer {
             numbered(number, format!("K {} {} {}", number, length, fnv(&buffer)))
         }
         Case::Canvas {
-            width,
-            height,
-            rectangle,
+            placing,
             canvas,
             plane,
         } => {
             let mut pixels = canvas.clone();
-            let number = library.place([*width, *height], &mut pixels, *rectangle, plane);
+            let number = library.place(placing, &mut pixels, plane);
             numbered(number, format!("C {} {}", number, fnv(&pixels)))
         }
         _ => answer_of_values(library, case),

@@ -4,6 +4,7 @@
 
 use std::io::{self, Read, Write};
 
+use crate::psp::listing::Entry;
 use crate::psp::rectangle::Rectangle;
 
 /// Longest payload that a program has room for.
@@ -19,6 +20,28 @@ pub struct Stored {
     pub length: u64,
     pub plane: u64,
     pub code: u32,
+}
+
+impl Stored {
+    /// A listed channel, with the image's compression as its code.
+    pub fn of(channel: &Entry, code: u32) -> Stored {
+        Stored {
+            start: u64::from(channel.content_start),
+            length: u64::from(channel.stored_length),
+            plane: u64::from(channel.plane_length),
+            code,
+        }
+    }
+}
+
+/// The sides of a canvas, the rectangle of a plane on it, and the bytes of the
+/// plane's row.
+#[derive(Clone, Copy, Debug, PartialEq)]
+pub struct Placing {
+    pub width: u32,
+    pub height: u32,
+    pub rectangle: Rectangle,
+    pub row: u32,
 }
 
 #[derive(Clone, Debug, PartialEq)]
@@ -47,9 +70,7 @@ pub enum Case {
         plane: Vec<u8>,
     },
     Canvas {
-        width: u32,
-        height: u32,
-        rectangle: Rectangle,
+        placing: Placing,
         canvas: Vec<u8>,
         plane: Vec<u8>,
     },
@@ -132,15 +153,10 @@ impl Case {
             } => to.u64(*plane).u32(*destination).string(stream),
             Case::Pack { destination, plane } => to.u32(*destination).string(plane),
             Case::Canvas {
-                width,
-                height,
-                rectangle,
+                placing,
                 canvas,
                 plane,
-            } => {
-                to.u32(*width).u32(*height).rectangle(rectangle);
-                to.string(canvas).string(plane)
-            }
+            } => to.placing(placing).string(canvas).string(plane),
             _ => to,
         }
     }
@@ -197,9 +213,7 @@ impl Case {
                 plane: from.string()?,
             },
             b'C' => Case::Canvas {
-                width: from.u32()?,
-                height: from.u32()?,
-                rectangle: from.rectangle()?,
+                placing: from.placing()?,
                 canvas: from.string()?,
                 plane: from.string()?,
             },
@@ -270,6 +284,11 @@ impl Payload {
         self.u64(value.plane).u32(value.code)
     }
 
+    fn placing(&mut self, value: &Placing) -> &mut Payload {
+        self.u32(value.width).u32(value.height);
+        self.rectangle(&value.rectangle).u32(value.row)
+    }
+
     fn rectangle(&mut self, value: &Rectangle) -> &mut Payload {
         for corner in value.corners().iter() {
             self.bytes.extend_from_slice(&corner.to_le_bytes());
@@ -332,6 +351,15 @@ impl<'a> Taker<'a> {
             length: self.u64()?,
             plane: self.u64()?,
             code: self.u32()?,
+        })
+    }
+
+    fn placing(&mut self) -> Option<Placing> {
+        Some(Placing {
+            width: self.u32()?,
+            height: self.u32()?,
+            rectangle: self.rectangle()?,
+            row: self.u32()?,
         })
     }
 

@@ -8,6 +8,7 @@ mod channels;
 mod damage;
 mod faults;
 mod fields;
+pub mod forms;
 pub mod known;
 pub mod many;
 mod packing;
@@ -24,7 +25,8 @@ use std::collections::HashSet;
 use std::io;
 
 use crate::case::{Case, Stored, ROOM_LIMIT};
-use crate::psp::listing::{list, CHANNEL};
+use crate::opened::channel_entries;
+use crate::psp::listing::list;
 use crate::random::Random;
 use crate::samples;
 use crate::write::Picture;
@@ -42,6 +44,7 @@ pub fn systematic() -> Vec<Case> {
     products::all(&mut cases);
     known::all(&mut cases);
     rows::all(&mut cases);
+    forms::all(&mut cases);
     beginnings::all(&mut cases);
     channels::all(&mut cases);
     streams::all(&mut cases);
@@ -237,19 +240,10 @@ fn layer(random: &mut Random) -> u32 {
 fn plane_of_file(random: &mut Random) -> Case {
     let picture = picture(random);
     let input = picture.bytes();
-    let channels: Vec<_> = list(&input, ROOM_LIMIT as usize)
-        .entries
-        .into_iter()
-        .filter(|entry| entry.id == u32::from(CHANNEL))
-        .collect();
+    let channels = channel_entries(&input, ROOM_LIMIT as usize);
     match channels.get(random.index(channels.len())) {
         Some(channel) => {
-            let stored = Stored {
-                start: u64::from(channel.content_start),
-                length: u64::from(channel.stored_length),
-                plane: u64::from(channel.plane_length),
-                code: u32::from(picture.image.compression),
-            };
+            let stored = Stored::of(channel, u32::from(picture.image.compression));
             planes::stored_plane(random, stored, input)
         }
         None => planes::plane(random),

@@ -6,6 +6,7 @@ pub mod case;
 pub mod cases;
 pub mod compare;
 pub mod library;
+pub mod opened;
 pub mod psp;
 pub mod random;
 pub mod samples;

@@ -1,7 +1,7 @@
 //! The entry points that are compared, behind one trait: the reference's own,
 //! or those of the library that is held to it.
 
-use crate::case::Stored;
+use crate::case::{Placing, Stored};
 use crate::psp::chunks::{ImageChunk, LayerChunk, Resolution};
 use crate::psp::listing::{self, ENTRY_NUMBERS};
 use crate::psp::planes::{self, PlaneAnswer};
@@ -12,7 +12,7 @@ use crate::psp::{canvas, listing::Listing};
 /// Number, place and entry count.
 pub type Listed = (u32, u64, u64);
 
-/// An entry's thirteen numbers.
+/// An entry's fourteen numbers.
 pub type Record = [u32; ENTRY_NUMBERS];
 
 pub trait Library {
@@ -22,7 +22,7 @@ pub trait Library {
     fn read_plane(&self, input: &[u8], stored: &Stored, destination: &mut [u8]) -> PlaneAnswer;
     fn unpack(&self, stream: &[u8], plane: u64, destination: &mut [u8]) -> PlaneAnswer;
     fn pack(&self, plane: &[u8], destination: &mut [u8]) -> (u32, u64);
-    fn place(&self, sides: [u32; 2], canvas: &mut [u8], saved: Rectangle, plane: &[u8]) -> u32;
+    fn place(&self, placing: &Placing, canvas: &mut [u8], plane: &[u8]) -> u32;
     fn intersect(&self, one: Rectangle, other: Rectangle) -> Rectangle;
     fn palette(&self, input: &[u8], room: usize, ramp: &[u8]) -> PaletteView;
     fn image_facts(&self, input: &[u8], room: usize) -> (u32, ImageChunk);
@@ -87,8 +87,10 @@ impl Library for Reference {
         planes::pack(plane, destination)
     }
 
-    fn place(&self, sides: [u32; 2], canvas: &mut [u8], saved: Rectangle, plane: &[u8]) -> u32 {
-        canvas::place(sides[0], sides[1], canvas, saved, plane)
+    fn place(&self, placing: &Placing, canvas: &mut [u8], plane: &[u8]) -> u32 {
+        let (width, height) = (placing.width, placing.height);
+        let saved = placing.rectangle;
+        canvas::place(width, height, canvas, saved, plane, placing.row)
     }
 
     fn intersect(&self, one: Rectangle, other: Rectangle) -> Rectangle {

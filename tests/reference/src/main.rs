@@ -1,5 +1,5 @@
-//! An independent reading of document 01, a generator of test cases, and a
-//! comparison with another program's answers.
+//! An independent reading of document 01 and of the requests that have landed,
+//! a generator of test cases, and a comparison with another program's answers.
 //!
 //! Built without cargo: `rustc -O --edition 2021 src/main.rs -o reference`
 
@@ -9,6 +9,7 @@ mod cases;
 mod compare;
 mod genuine;
 mod library;
+mod opened;
 mod psp;
 mod random;
 mod samples;

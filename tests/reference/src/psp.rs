@@ -1,5 +1,6 @@
-//! Document 01, written from its text: the listing of a Paint Shop Pro 3.0
-//! file, the plane reader, the packer, the canvas and the views.
+//! Document 01 with request (i) of document 02, written from their text: the
+//! listing of a Paint Shop Pro 3.0 file, the plane reader, the packer, the
+//! canvas and the views.
 //!
 //! Nothing here aims at speed or at a small memory. Every function returns an
 //! answer for every input; sums that a file can make large are done in 64 bits.
@@ -42,7 +43,8 @@ pub mod number {
 
     pub const CANVAS_WRONG: u32 = 40;
     pub const RECTANGLE_WRONG: u32 = 41;
-    pub const PLANE_LENGTH_WRONG: u32 = 42;
+    /// The row is of no form, or the plane is not so many rows of it.
+    pub const PLANE_WRONG: u32 = 42;
     pub const NO_PALETTE_AT_24: u32 = 43;
     pub const RAMP_WRONG: u32 = 44;
     pub const NO_SUCH_LAYER: u32 = 45;

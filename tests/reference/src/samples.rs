@@ -3,15 +3,25 @@
 
 mod mug;
 
-pub use mug::mug;
+pub use mug::{mug, narrow_mug};
 
 use crate::psp::planes::packed_form;
 use crate::psp::rectangle::Rectangle;
-use crate::write::{Image, InBank, Layer, Picture, Skipped};
+use crate::write::{Form, Image, InBank, Layer, Picture, Skipped};
 
 /// The names that `sample` knows.
-pub const NAMES: [&str; 9] = [
-    "grey521", "layers11", "palette", "bits1", "bits4", "greys", "skips", "masks", "mug",
+pub const NAMES: [&str; 11] = [
+    "grey521",
+    "layers11",
+    "palette",
+    "bits1",
+    "bits4",
+    "greys",
+    "skips",
+    "masks",
+    "mug",
+    "mug-padded",
+    "mug-unpadded",
 ];
 
 pub fn sample(name: &str) -> Option<Picture> {
@@ -25,6 +35,8 @@ pub fn sample(name: &str) -> Option<Picture> {
         "skips" => Some(skips()),
         "masks" => Some(masks()),
         "mug" => Some(mug()),
+        "mug-padded" => Some(narrow_mug(Form::Padded)),
+        "mug-unpadded" => Some(narrow_mug(Form::Unpadded)),
         _ => None,
     }
 }

@@ -1,6 +1,7 @@
 //! Checks of this program: document 01's worked values and sample, and a
 //! check for each point that its text leaves open or that is easily missed.
 
+mod forms;
 mod generator;
 mod known;
 mod listing;
@@ -21,6 +22,7 @@ pub fn report() -> bool {
     listing::all(&mut checks);
     known::all(&mut checks);
     planes::all(&mut checks);
+    forms::all(&mut checks);
     views::all(&mut checks);
     generator::all(&mut checks);
     for name in &checks.failed {

@@ -3,6 +3,8 @@
 //! the three shows it best, so no field is judged here: a description may be
 //! as wrong as a test wants.
 
+use std::ops::RangeInclusive;
+
 use crate::psp::rectangle::Rectangle;
 
 pub const SIGNATURE_TEXT: &[u8] = b"Paint Shop Pro Image File\n\x1a";
@@ -177,6 +179,22 @@ impl Image {
         }
     }
 
+    /// The codes of a layer's colour channels.
+    pub fn colour_codes(&self) -> RangeInclusive<u16> {
+        match self.depth {
+            24 => 1..=3,
+            _ => 0..=0,
+        }
+    }
+
+    /// Bits of a pixel in the bitmap's planes.
+    pub fn bits(&self, bitmap: u16) -> u64 {
+        match (bitmap, self.depth) {
+            (0, depth) if depth < 24 => u64::from(depth),
+            _ => 8,
+        }
+    }
+
     pub fn chunk(&self) -> Vec<u8> {
         let mut chunk = Vec::new();
         chunk.extend_from_slice(&self.width.to_le_bytes());
@@ -209,11 +227,35 @@ impl Skipped {
     }
 }
 
+/// What a plane's rows are written with.
+#[derive(Clone, Copy, Debug, PartialEq)]
+pub enum Form {
+    /// Bytes up to a whole group of 32 bits.
+    Padded,
+    /// Nothing: a row is as many bytes as pixels, also where a pixel is no byte
+    /// and such a row is wrong.
+    Unpadded,
+}
+
+impl Form {
+    pub const BOTH: [Form; 2] = [Form::Padded, Form::Unpadded];
+
+    /// Bytes of a row of so many pixels of so many bits.
+    pub fn row(self, width: u64, bits: u64) -> u64 {
+        match self {
+            Form::Padded => (width * bits + 31) / 32 * 4,
+            Form::Unpadded => width,
+        }
+    }
+}
+
 #[derive(Clone, Debug)]
 pub struct Channel {
     pub bitmap: u16,
     pub channel: u16,
-    /// None writes the plane length that the layer's rectangles give.
+    pub form: Form,
+    /// None writes the plane length that the form and the layer's rectangles
+    /// give.
     pub plane: Option<u32>,
     pub content: Vec<u8>,
 }
@@ -222,7 +264,7 @@ impl Channel {
     fn node(&self, image: &Image, layer: &Layer) -> Node {
         let plane = self
             .plane
-            .unwrap_or_else(|| layer.plane_length(image, self.bitmap) as u32);
+            .unwrap_or_else(|| layer.plane_length(image, self.bitmap, self.form) as u32);
         let mut data = Vec::new();
         data.extend_from_slice(&(self.content.len() as u32).to_le_bytes());
         data.extend_from_slice(&plane.to_le_bytes());
@@ -299,11 +341,17 @@ impl Layer {
         self
     }
 
+    /// Adds a channel of padded rows.
+    pub fn with(self, bitmap: u16, channel: u16, content: Vec<u8>) -> Layer {
+        self.with_rows(Form::Padded, bitmap, channel, content)
+    }
+
     /// Adds a channel and keeps the two counts true, whatever the order.
-    pub fn with(mut self, bitmap: u16, channel: u16, content: Vec<u8>) -> Layer {
+    pub fn with_rows(mut self, form: Form, bitmap: u16, channel: u16, content: Vec<u8>) -> Layer {
         self.inside.push(InLayer::Channel(Channel {
             bitmap,
             channel,
+            form,
             plane: None,
             content,
         }));
@@ -338,18 +386,14 @@ impl Layer {
         }
     }
 
-    /// Bytes of a row of the bitmap's planes: whole groups of 32 bits.
-    pub fn row_length(&self, image: &Image, bitmap: u16) -> u64 {
-        let bits = match (bitmap, image.depth) {
-            (0, depth) if depth < 24 => u64::from(depth),
-            _ => 8,
-        };
+    /// Bytes of a row of the bitmap's planes.
+    pub fn row_length(&self, image: &Image, bitmap: u16, form: Form) -> u64 {
         let width = self.saved(bitmap).width().max(0) as u64;
-        (width * bits + 31) / 32 * 4
+        form.row(width, image.bits(bitmap))
     }
 
-    pub fn plane_length(&self, image: &Image, bitmap: u16) -> u64 {
-        self.row_length(image, bitmap) * self.saved(bitmap).height().max(0) as u64
+    pub fn plane_length(&self, image: &Image, bitmap: u16, form: Form) -> u64 {
+        self.row_length(image, bitmap, form) * self.saved(bitmap).height().max(0) as u64
     }
 
     pub fn chunk(&self) -> Vec<u8> {

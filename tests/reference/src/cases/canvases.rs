@@ -1,11 +1,18 @@
-//! Canvases, and rectangles on and off them.
+//! Canvases, and rectangles on and off them, with planes of both forms.
 
-use crate::case::Case;
+use crate::case::{Case, Placing};
 use crate::psp::rectangle::Rectangle;
 use crate::random::Random;
+use crate::write::Form;
 
-fn padded_row(width: i64) -> i64 {
-    (width + 3) / 4 * 4
+/// Bytes of a row of 8-bit pixels.
+fn row(form: Form, width: i64) -> i64 {
+    form.row(width as u64, 8) as i64
+}
+
+fn rectangle(corners: [i64; 4]) -> Rectangle {
+    let [left, top, right, bottom] = corners.map(|corner| corner as i32);
+    Rectangle::new(left, top, right, bottom)
 }
 
 /// A canvas of at most 20,000 bytes and a rectangle on or off it.
@@ -15,18 +22,16 @@ pub fn canvas(random: &mut Random) -> Case {
     let top = random.between(-10, height + 3);
     let (wide, high) = extent(random);
     let mut corners = [left, top, left + wide, top + high];
-    let plane_length = spoil_rectangle(random, &mut corners, wide, high);
+    spoil_rectangle(random, &mut corners);
+    let (row, plane_length) = plane(random, wide, high);
     let (width, height, canvas_length) = spoil_canvas(random, width, height);
     let canvas = random.bytes(canvas_length.clamp(0, 20_000) as usize);
-    let [left, top, right, bottom] = corners.map(|corner| corner as i32);
     Case::Canvas {
-        width: width as u32,
-        height: height as u32,
-        rectangle: Rectangle {
-            left,
-            top,
-            right,
-            bottom,
+        placing: Placing {
+            width: width as u32,
+            height: height as u32,
+            rectangle: rectangle(corners),
+            row: row as u32,
         },
         canvas,
         plane: random.bytes(plane_length.clamp(0, 45_000) as usize),
@@ -53,9 +58,8 @@ fn extent(random: &mut Random) -> (i64, i64) {
     }
 }
 
-/// Spoils the corners or the plane's length, or leaves both good.
-fn spoil_rectangle(random: &mut Random, corners: &mut [i64; 4], wide: i64, high: i64) -> i64 {
-    let length = padded_row(wide) * high;
+/// Spoils the corners, or leaves them good.
+fn spoil_rectangle(random: &mut Random, corners: &mut [i64; 4]) {
     match random.below(16) {
         0 => corners.swap(0, 2),
         1 => corners.swap(1, 3),
@@ -72,11 +76,26 @@ fn spoil_rectangle(random: &mut Random, corners: &mut [i64; 4], wide: i64, high:
             let (least, greatest) = (i64::from(i32::MIN), i64::from(i32::MAX));
             corners[at] = random.pick(&[least, greatest, -32_769, -32_768, 32_767, 32_768]);
         }
-        4 => return length + random.pick(&[-4, -1, 1, 4]),
-        5 => return wide * high,
         _ => {}
     }
-    length
+}
+
+/// The row and the length of a plane of either form; at times one of them, or
+/// both together, are of no form.
+fn plane(random: &mut Random, wide: i64, high: i64) -> (i64, i64) {
+    let row = row(random.pick(&Form::BOTH), wide);
+    let other = match random.below(4) {
+        0 => wide,
+        1 => random.pick(&[0, 1 << 30, 1 << 31, u32::MAX.into()]),
+        _ => row + random.pick(&[-4, -1, 1, 4]),
+    };
+    match random.below(20) {
+        0 => (row, row * high + random.pick(&[-4, -1, 1, 4])),
+        1 => (row, other * high),
+        2 => (other, row * high),
+        3 => (other, other * high & 0xFFFF_FFFF),
+        _ => (row, row * high),
+    }
 }
 
 /// Spoils a side or the canvas's length, or leaves both good.
@@ -101,38 +120,86 @@ fn spoil_canvas(random: &mut Random, width: i64, height: i64) -> (i64, i64, i64)
 /// The systematic cases.
 pub fn all(cases: &mut Vec<Case>) {
     cases.push(Case::Canvas {
-        width: 3,
-        height: 2,
-        rectangle: Rectangle::new(-1, 1, 1, 2),
+        placing: Placing {
+            width: 3,
+            height: 2,
+            rectangle: Rectangle::new(-1, 1, 1, 2),
+            row: 4,
+        },
         canvas: vec![0xEE; 6],
         plane: vec![0x10, 0x11, 0, 0],
     });
     on_every_side(cases);
+    rows_around(cases);
+    rows_that_wrap(cases);
     sides_at_limits(cases);
     rectangles_at_limits(cases);
 }
 
-/// A rectangle on every side of a canvas and off it, of every small size.
-fn on_every_side(cases: &mut Vec<Case>) {
-    let mut push = |corner: [i64; 2], [wide, high]: [i64; 2]| {
-        let [left, top] = corner;
-        let corners = [left, top, left + wide, top + high];
-        let [left, top, right, bottom] = corners.map(|corner| corner as i32);
-        let length = padded_row(wide) * high;
-        cases.push(Case::Canvas {
+/// Every one of the first with every one of the second.
+fn pairs(
+    first: impl IntoIterator<Item = i64>,
+    second: impl IntoIterator<Item = i64> + Clone,
+) -> Vec<[i64; 2]> {
+    let with_second = |one| second.clone().into_iter().map(move |other| [one, other]);
+    first.into_iter().flat_map(with_second).collect()
+}
+
+/// A rectangle of a size with its corner on or off a canvas of 5 by 4. Bytes of
+/// the plane differ, so that a wrong one shows.
+fn on_small(corner: [i64; 2], size: [i64; 2], row: i64, plane: i64) -> Case {
+    let ([left, top], [wide, high]) = (corner, size);
+    Case::Canvas {
+        placing: Placing {
             width: 5,
             height: 4,
-            rectangle: Rectangle::new(left, top, right, bottom),
-            canvas: vec![0xEE; 20],
-            plane: (0..length).map(|at| at as u8).collect(),
-        });
-    };
-    for left in -6..=6 {
-        for top in [-4, -3, -1, 0, 1, 3, 4] {
-            for wide in [0, 1, 4, 5, 11] {
-                for high in [0, 1, 3, 9] {
-                    push([left, top], [wide, high]);
-                }
+            rectangle: rectangle([left, top, left + wide, top + high]),
+            row: row as u32,
+        },
+        canvas: vec![0xEE; 20],
+        plane: (0..plane).map(|at| at as u8).collect(),
+    }
+}
+
+/// A rectangle on every side of a canvas and off it, of every small size.
+fn on_every_side(cases: &mut Vec<Case>) {
+    let corners = pairs(-6..=6, [-4, -3, -1, 0, 1, 3, 4]);
+    let sizes = pairs([0, 1, 2, 3, 4, 5, 11], [0, 1, 3, 9]);
+    for form in Form::BOTH {
+        for &[wide, high] in &sizes {
+            let row = row(form, wide);
+            let placed = |&corner| on_small(corner, [wide, high], row, row * high);
+            cases.extend(corners.iter().map(placed));
+        }
+    }
+}
+
+/// Rows of each form and off by one, with planes of so many rows and off by
+/// one: in the middle, past each side and off the canvas. Empty rectangles have
+/// rows, too.
+fn rows_around(cases: &mut Vec<Case>) {
+    const CORNERS: [[i64; 2]; 7] = [[1, 1], [-1, 1], [1, -1], [4, 1], [1, 3], [5, 4], [-30, -30]];
+    for size in pairs(0..=9, 0..=3) {
+        let rows = Form::BOTH.map(|form| row(form, size[0]));
+        for [row, off] in pairs(rows, -1..=1) {
+            let row = row + off;
+            let lengths = (-1..=1).map(|off| row * size[1] + off);
+            for length in lengths.filter(|&length| length >= 0) {
+                cases.extend(CORNERS.map(|corner| on_small(corner, size, row, length)));
+            }
+        }
+    }
+}
+
+/// Rows whose product with the height is past 32 bits, and what is left of it
+/// there is a plane that either form could have.
+fn rows_that_wrap(cases: &mut Vec<Case>) {
+    for [wide, high] in pairs([0, 1, 4, 5], [0, 2, 4]) {
+        for form in Form::BOTH {
+            let length = row(form, wide) * high;
+            for more in [1 << 30, 1 << 31, 3 << 30] {
+                let row = row(form, wide) + more;
+                cases.push(on_small([0, 0], [wide, high], row, length));
             }
         }
     }
@@ -141,7 +208,7 @@ fn on_every_side(cases: &mut Vec<Case>) {
 /// Sides at their limits, with lengths right, wrong and wrapped.
 fn sides_at_limits(cases: &mut Vec<Case>) {
     const SIDES: [u32; 9] = [0, 1, 2, 4, 4_096, 4_097, 65_536, 0x8000_0000, 0xFFFF_FFFF];
-    // Two refusals at once: the canvas speaks first.
+    // Several refusals at once: the canvas speaks first, then the rectangle.
     let rectangles = [Rectangle::new(0, 0, 1, 1), Rectangle::new(1, 1, 0, 0)];
     for width in SIDES {
         for height in SIDES {
@@ -150,9 +217,12 @@ fn sides_at_limits(cases: &mut Vec<Case>) {
             let lengths = [product, wrapped, product + 1, product.saturating_sub(1)];
             for length in lengths.iter().filter(|&&length| length <= 20_000) {
                 cases.extend(rectangles.iter().map(|&rectangle| Case::Canvas {
-                    width,
-                    height,
-                    rectangle,
+                    placing: Placing {
+                        width,
+                        height,
+                        rectangle,
+                        row: 4,
+                    },
                     canvas: vec![1; *length as usize],
                     plane: vec![2; 4],
                 }));
@@ -161,10 +231,11 @@ fn sides_at_limits(cases: &mut Vec<Case>) {
     }
 }
 
-/// Rectangles against the coordinate and side rules, planes right or not.
+/// Rectangles against the coordinate and side rules, planes of both forms right
+/// or not.
 fn rectangles_at_limits(cases: &mut Vec<Case>) {
-    const EDGES: [i32; 12] = [
-        i32::MIN,
+    const EDGES: [i64; 12] = [
+        i32::MIN as i64,
         -32_769,
         -32_768,
         -4_097,
@@ -177,16 +248,19 @@ fn rectangles_at_limits(cases: &mut Vec<Case>) {
         32_767,
         32_768,
     ];
-    for low in EDGES {
-        for high in EDGES {
-            let lying = Rectangle::new(low, 0, high, 1);
-            for rectangle in [lying, Rectangle::new(0, low, 1, high)] {
-                let row = padded_row(rectangle.width().clamp(0, 4_100));
+    for [low, high] in pairs(EDGES, EDGES) {
+        let lying = rectangle([low, 0, high, 1]);
+        for rectangle in [lying, rectangle([0, low, 1, high])] {
+            for form in Form::BOTH {
+                let row = row(form, rectangle.width().clamp(0, 4_100));
                 let length = (row * rectangle.height().clamp(0, 4_100)) as usize;
                 cases.extend((0..2).map(|more| Case::Canvas {
-                    width: 2,
-                    height: 2,
-                    rectangle,
+                    placing: Placing {
+                        width: 2,
+                        height: 2,
+                        rectangle,
+                        row: row as u32,
+                    },
                     canvas: vec![0xEE; 4],
                     plane: vec![3; length + more],
                 }));

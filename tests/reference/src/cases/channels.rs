@@ -1,12 +1,14 @@
 //! Systematic cases over stored channels: every channel of the samples, read
-//! where it stands, and streams cut and spoilt at every byte.
+//! where it stands and placed where its layer says, and streams cut and spoilt
+//! at every byte.
 
-use super::sweeps;
+use super::{every_listing, sweeps};
 use crate::case::{Case, Stored, ROOM_LIMIT};
-use crate::psp::listing::{list, Entry, CHANNEL};
+use crate::opened::{channel_entries, open};
+use crate::psp::listing::Entry;
 use crate::psp::planes::packed_form;
 use crate::samples;
-use crate::write::Picture;
+use crate::write::{Form, Picture};
 
 /// Count bytes around everything that they can mean.
 const COUNTS: [u8; 6] = [0, 1, 127, 128, 129, 255];
@@ -16,16 +18,41 @@ pub fn all(cases: &mut Vec<Case>) {
         of_file(&sample, cases);
     }
     of_file(&samples::mug(), cases);
+    for form in Form::BOTH {
+        layer_by_layer(&samples::narrow_mug(form), cases);
+    }
     cut_streams(cases);
+}
+
+/// A file listed, each of its channels read, and each plane placed with the
+/// row of its entry on a canvas of the image's size. The checks of this program
+/// hold the canvases of both forms to each other.
+fn layer_by_layer(sample: &Picture, cases: &mut Vec<Case>) {
+    let input = sample.bytes();
+    cases.extend(every_listing(ROOM_LIMIT, 0, &input));
+    let file = match open(&input, ROOM_LIMIT as usize) {
+        Ok(file) => file,
+        Err(_) => return,
+    };
+    for channel in &file.channels {
+        cases.push(Case::Plane {
+            stored: channel.stored,
+            destination: channel.entry.plane_length,
+            input: input.clone(),
+        });
+        cases.push(Case::Canvas {
+            placing: file.placing(channel),
+            canvas: vec![0; file.pixels()],
+            plane: channel.plane.clone(),
+        });
+    }
 }
 
 /// Each channel with each code, and destinations one short, exact and longer;
 /// of the whole file, and of its beginning up to the channel's end.
 fn of_file(sample: &Picture, cases: &mut Vec<Case>) {
     let input = sample.bytes();
-    let entries = list(&input, ROOM_LIMIT as usize).entries;
-    let channel = u32::from(CHANNEL);
-    for entry in entries.iter().filter(|entry| entry.id == channel) {
+    for entry in &channel_entries(&input, ROOM_LIMIT as usize) {
         let end = (entry.content_start + entry.stored_length) as usize;
         for arrived in [&input[..end], &input[..]] {
             of_entry(entry, arrived, cases);
@@ -35,12 +62,7 @@ fn of_file(sample: &Picture, cases: &mut Vec<Case>) {
 
 fn of_entry(entry: &Entry, input: &[u8], cases: &mut Vec<Case>) {
     for code in 0..3 {
-        let stored = Stored {
-            start: u64::from(entry.content_start),
-            length: u64::from(entry.stored_length),
-            plane: u64::from(entry.plane_length),
-            code,
-        };
+        let stored = Stored::of(entry, code);
         let plane = entry.plane_length;
         for destination in [plane.saturating_sub(1), plane, plane + 7] {
             cases.push(Case::Plane {

@@ -3,13 +3,16 @@
 
 use super::fields;
 use crate::random::Random;
-use crate::write::{file_header, Node, Picture, Tree};
+use crate::write::{file_header, Form, InLayer, Layer, Node, Picture, Tree};
 
 /// The bytes of a picture after a few damages of any sort.
 pub fn damaged(random: &mut Random, picture: &Picture) -> Vec<u8> {
     let mut picture = picture.clone();
     if random.one_in(8) {
         rectangle(random, &mut picture);
+    }
+    if random.one_in(16) {
+        form(random, &mut picture);
     }
     let mut tree = picture.tree();
     let times = random.pick(&[1, 1, 1, 1, 2, 3]);
@@ -26,11 +29,25 @@ pub fn damaged(random: &mut Random, picture: &Picture) -> Vec<u8> {
     bytes
 }
 
+fn any_layer<'a>(random: &mut Random, picture: &'a mut Picture) -> Option<&'a mut Layer> {
+    let layers = picture.layers_mut();
+    let chosen = random.index(layers.len());
+    layers.into_iter().nth(chosen)
+}
+
+/// Gives the planes of a layer lengths without padding, wherever they stand.
+fn form(random: &mut Random, picture: &mut Picture) {
+    let inside = any_layer(random, picture).map(|layer| &mut layer.inside);
+    for part in inside.into_iter().flatten() {
+        if let InLayer::Channel(channel) = part {
+            channel.form = Form::Unpadded;
+        }
+    }
+}
+
 /// Moves a corner of a layer's rectangle by a little, plane lengths following.
 fn rectangle(random: &mut Random, picture: &mut Picture) {
-    let mut layers = picture.layers_mut();
-    let chosen = random.index(layers.len());
-    let layer = match layers.get_mut(chosen) {
+    let layer = match any_layer(random, picture) {
         Some(layer) => layer,
         None => return,
     };

@@ -112,7 +112,7 @@ fn grid(files: &mut Vec<Known>) {
 /// 116 and 505.
 type Change = (&'static str, usize, usize, u32, (u32, u64, usize));
 
-const CHANGES: [Change; 22] = [
+const CHANGES: [Change; 25] = [
     ("signature", 0, 1, 112, (3, 0, 0)),
     ("version 3.1", 34, 2, 1, (4, 32, 0)),
     ("mark of the bank", 88, 1, 0, (5, 88, 1)),
@@ -134,6 +134,9 @@ const CHANGES: [Change; 22] = [
     ("saved outside its border", 397, 4, 2, (8, 116, 2)),
     ("bitmap 6", 513, 2, 6, (8, 505, 3)),
     ("bitmap 3", 513, 2, 3, (9, 491, 3)),
+    ("plane length 0", 509, 4, 0, (8, 505, 3)),
+    ("plane length 1, no padding", 509, 4, 1, (0, 521, 4)),
+    ("plane length 3", 509, 4, 3, (8, 505, 3)),
     ("plane length 5", 509, 4, 5, (8, 505, 3)),
 ];
 
@@ -159,12 +162,12 @@ fn fields(files: &mut Vec<Known>) {
 /// A picture of one pixel, with so many palettes of two entries before its bank
 /// and after it.
 fn pixel(depth: u16, grey: bool, before: usize, after: usize) -> Picture {
+    let image = Image::new(depth, grey);
     let mut layer = Layer::new(Rectangle::new(0, 0, 1, 1));
-    let colours = if depth == 24 { 1..=3 } else { 0..=0 };
-    for colour in colours {
+    for colour in image.colour_codes() {
         layer = layer.with(0, colour, vec![0; 4]);
     }
-    let mut picture = Picture::new(Image::new(depth, grey));
+    let mut picture = Picture::new(image);
     for _ in 0..before {
         picture = picture.palette(vec![[1, 2, 3, 4], [5, 6, 7, 8]]);
     }

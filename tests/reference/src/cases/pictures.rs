@@ -2,7 +2,7 @@
 
 use crate::psp::rectangle::Rectangle;
 use crate::random::Random;
-use crate::write::{Channel, Image, InBank, InLayer, Layer, Main, Picture, Skipped};
+use crate::write::{Channel, Form, Image, InBank, InLayer, Layer, Main, Picture, Skipped};
 
 /// Ids of blocks that every level skips.
 const UNKNOWN_IDS: [u16; 6] = [12, 13, 255, 256, 32_768, 65_535];
@@ -166,10 +166,8 @@ fn known(random: &mut Random) -> Skipped {
 
 fn layer(random: &mut Random, image: &Image, plain: bool, skipping: bool) -> Layer {
     let mut layer = layer_chunk(random, plain);
-    let mut codes: Vec<(u16, u16)> = match image.depth {
-        24 => vec![(0, 1), (0, 2), (0, 3)],
-        _ => vec![(0, 0)],
-    };
+    let colours = image.colour_codes();
+    let mut codes: Vec<(u16, u16)> = colours.map(|channel| (0, channel)).collect();
     if random.one_in(3) {
         codes.push((1, 0));
     }
@@ -185,11 +183,13 @@ fn layer(random: &mut Random, image: &Image, plain: bool, skipping: bool) -> Lay
         if skipping && random.one_in(6) {
             layer.inside.push(InLayer::Skipped(unknown(random)));
         }
-        let plane = layer.plane_length(image, bitmap);
+        let form = form(random, image.bits(bitmap));
+        let plane = layer.plane_length(image, bitmap, form);
         let content = content(random, plane, image.compression, plain);
         layer.inside.push(InLayer::Channel(Channel {
             bitmap,
             channel,
+            form,
             plane: None,
             content,
         }));
@@ -198,6 +198,16 @@ fn layer(random: &mut Random, image: &Image, plain: bool, skipping: bool) -> Lay
         layer.inside.push(InLayer::Skipped(unknown(random)));
     }
     layer
+}
+
+/// Only pixels of a byte each may stand without padding. The channels of a
+/// layer choose each for itself.
+fn form(random: &mut Random, bits: u64) -> Form {
+    if bits == 8 {
+        random.pick(&Form::BOTH)
+    } else {
+        Form::Padded
+    }
 }
 
 /// A layer without channels; every field that no rule fixes is anything.

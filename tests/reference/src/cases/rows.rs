@@ -3,7 +3,7 @@
 //! shared pixels beside them. Each has the beginning of its line, worked out by
 //! hand, to which the checks of this program hold the reference.
 
-use crate::case::{Case, Stored};
+use crate::case::{Case, Placing, Stored};
 use crate::psp::rectangle::Rectangle;
 
 pub fn all(cases: &mut Vec<Case>) {
@@ -103,13 +103,17 @@ fn packed(rows: &mut Rows) {
     rows.push((back, "U 0 5 129"));
 }
 
-/// Document 01's row, and each refusal, in the order of the tests.
+/// Document 01's row, the same without padding, and each refusal, in the order
+/// of the tests.
 fn canvases(rows: &mut Rows) {
-    let mut push = |height, rectangle, plane: &[u8], line| {
+    let mut push = |height, rectangle, row, plane: &[u8], line| {
         let case = Case::Canvas {
-            width: 3,
-            height,
-            rectangle,
+            placing: Placing {
+                width: 3,
+                height,
+                rectangle,
+                row,
+            },
             canvas: vec![0xEE; 6],
             plane: plane.to_vec(),
         };
@@ -117,10 +121,17 @@ fn canvases(rows: &mut Rows) {
     };
     let saved = Rectangle::new(-1, 1, 1, 2);
     let back = Rectangle::new(1, 1, -1, 2);
-    push(2, saved, &[0x10, 0x11, 0, 0], "C 0");
-    push(3, back, &[], "C 40");
-    push(2, back, &[], "C 41");
-    push(2, saved, &[0x10, 0x11], "C 42");
+    let empty = Rectangle::new(0, 1, 2, 1);
+    push(2, saved, 4, &[0x10, 0x11, 0, 0], "C 0");
+    push(2, saved, 2, &[0x10, 0x11], "C 0");
+    push(2, empty, 4, &[], "C 0");
+    push(2, empty, 2, &[], "C 0");
+    push(3, back, 3, &[], "C 40");
+    push(2, back, 3, &[], "C 41");
+    push(2, saved, 4, &[0x10, 0x11], "C 42");
+    push(2, saved, 2, &[0x10, 0x11, 0, 0], "C 42");
+    push(2, saved, 3, &[0x10, 0x11, 0], "C 42");
+    push(2, empty, 3, &[], "C 42");
 }
 
 /// The pixels that rectangles share with one of 4 by 4.

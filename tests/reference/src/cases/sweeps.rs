@@ -6,7 +6,7 @@ use super::{every_listing, faults, fields, rectangles};
 use crate::case::{Case, ROOM_LIMIT};
 use crate::psp::listing::list;
 use crate::samples;
-use crate::write::{InLayer, Node, Picture, Tree};
+use crate::write::{Form, InLayer, Node, Picture, Tree};
 
 /// The small samples, one of each sort.
 pub fn bases() -> Vec<Picture> {
@@ -336,7 +336,7 @@ fn channel_codes(base: &Picture, cases: &mut Vec<Case>) {
                 let mut changed = base.clone();
                 let image = base.image.clone();
                 if let Some(layer) = changed.layers_mut().get_mut(layer) {
-                    let true_plane = layer.plane_length(&image, code / 6) as u32;
+                    let true_plane = layer.plane_length(&image, code / 6, Form::Padded) as u32;
                     if let Some(InLayer::Channel(channel)) = layer.inside.get_mut(at) {
                         let kept = layer_plane(base, channel.bitmap, true_plane, code);
                         channel.bitmap = code / 6;
@@ -357,7 +357,7 @@ fn layer_plane(base: &Picture, old_bitmap: u16, true_plane: u32, code: u16) -> u
         true_plane
     } else {
         base.layers().first().map_or(0, |layer| {
-            layer.plane_length(&base.image, old_bitmap) as u32
+            layer.plane_length(&base.image, old_bitmap, Form::Padded) as u32
         })
     }
 }

@@ -1,19 +1,18 @@
 //! What GIMP has to say of a file, in the lines of tests/genuine/dump.scm.
 
 use super::ROOM;
+use crate::opened::{open, Channel, Opened};
 use crate::psp::chunks::{ImageChunk, LayerChunk};
-use crate::psp::listing::{list, Entry, CHANNEL};
-use crate::psp::rectangle::row;
-use crate::psp::{number, part, planes, views};
+use crate::psp::{part, views};
 
 /// A channel's plane, of which single pixels are asked.
-struct Plane {
-    bytes: Vec<u8>,
+struct Plane<'a> {
+    bytes: &'a [u8],
     row: u64,
     bits: u64,
 }
 
-impl Plane {
+impl Plane<'_> {
     /// Below 8 bits the leftmost pixel has the highest bits of its byte.
     fn pixel(&self, x: u64, y: u64) -> u8 {
         let bit = x * self.bits;
@@ -26,10 +25,11 @@ pub fn text(input: &[u8], image: &ImageChunk) -> Result<String, u32> {
     let mut text = format!("image {} {}\n", image.width, image.height);
     text.push_str(&format!("resolution {}\n", hundredths_an_inch(image)));
     text.push_str(&base(input, image));
-    for k in 0..u64::from(image.layer_count) {
-        let layer = views::layer_facts(input, ROOM, k)?;
+    let file = open(input, ROOM)?;
+    for k in 0..u32::from(image.layer_count) {
+        let layer = views::layer_facts(input, ROOM, u64::from(k))?;
         text.push_str(&layer_lines(&layer));
-        text.push_str(&pixel_lines(&planes(input, image, k)?, &layer));
+        text.push_str(&pixel_lines(&planes(&file, k), &layer));
     }
     Ok(text)
 }
@@ -77,41 +77,22 @@ fn layer_lines(layer: &LayerChunk) -> String {
 
 /// The planes of a layer's pixels: its colours, then its transparency. GIMP
 /// leaves the user mask out.
-fn planes(input: &[u8], image: &ImageChunk, k: u64) -> Result<Vec<Plane>, u32> {
-    let listing = list(input, ROOM);
-    let shown = |entry: &&Entry| {
-        entry.id == u32::from(CHANNEL) && u64::from(entry.layer_number) == k && entry.bitmap < 2
-    };
-    let mut channels: Vec<&Entry> = listing.entries.iter().filter(shown).collect();
-    channels.sort_by_key(|entry| (entry.bitmap, entry.channel));
-    channels
-        .into_iter()
-        .map(|entry| plane(input, image, entry))
-        .collect()
-}
-
-fn plane(input: &[u8], image: &ImageChunk, entry: &Entry) -> Result<Plane, u32> {
-    let mut bytes = vec![0; entry.plane_length as usize];
-    let answer = planes::read_plane(
-        input,
-        u64::from(entry.content_start),
-        u64::from(entry.stored_length),
-        u64::from(entry.plane_length),
-        u32::from(image.compression),
-        &mut bytes,
-    );
-    if answer.number != number::ACCEPTED {
-        return Err(answer.number);
+fn planes(file: &Opened, k: u32) -> Vec<Plane<'_>> {
+    let shown = |channel: &&Channel| channel.entry.layer_number == k && channel.entry.bitmap < 2;
+    let mut channels: Vec<&Channel> = file.channels.iter().filter(shown).collect();
+    channels.sort_by_key(|channel| (channel.entry.bitmap, channel.entry.channel));
+    let mut planes = Vec::new();
+    for channel in channels {
+        planes.push(Plane {
+            bytes: &channel.plane,
+            row: u64::from(channel.entry.row),
+            bits: match channel.entry.bitmap {
+                0 => file.image.colour_bits(),
+                _ => 8,
+            },
+        });
     }
-    let bits = match entry.bitmap {
-        0 => image.colour_bits(),
-        _ => 8,
-    };
-    Ok(Plane {
-        bytes,
-        row: row(u64::from(entry.width), bits),
-        bits,
-    })
+    planes
 }
 
 fn pixel_lines(planes: &[Plane], layer: &LayerChunk) -> String {

@@ -3,7 +3,7 @@
 use crate::psp::planes::packed_form;
 use crate::psp::rectangle::Rectangle;
 use crate::random::Random;
-use crate::write::{Image, Layer};
+use crate::write::{Form, Image, Layer};
 
 /// Bitmaps of a layer besides its colours. Limit: a user mask only together
 /// with a transparency mask.
@@ -28,8 +28,48 @@ pub fn names(count: usize, random: &mut Random) -> Vec<String> {
     names
 }
 
-pub fn layer(name: &str, masks: Masks, image: &Image, colours: i64, random: &mut Random) -> Layer {
-    let mut layer = Layer::new(saved_rectangle(image, image.depth, random)).named(name);
+/// The saved widths of a picture's layers.
+#[derive(Clone, Copy)]
+pub enum Widths {
+    /// Limits: a multiple of 32 at 1 bit and of 4 at 8 bits, where padding needs
+    /// no bytes. At 4 bits GIMP reads every width, so there it meets padding.
+    Whole,
+    /// Without padding, which GIMP expects: the first, and one more a layer.
+    From(i64),
+}
+
+impl Widths {
+    fn form(self) -> Form {
+        match self {
+            Widths::Whole => Form::Padded,
+            Widths::From(_) => Form::Unpadded,
+        }
+    }
+
+    /// The width of a plane of layer k, of pixels of so many bits.
+    fn width(self, k: i64, bits: u64, most: u32, random: &mut Random) -> i64 {
+        let step = match (self, bits) {
+            (Widths::From(first), _) => return first + k,
+            (Widths::Whole, 1) => 32,
+            (Widths::Whole, 4) => 1,
+            (Widths::Whole, _) => 4,
+        };
+        step * random.between(1, i64::from(most) / step)
+    }
+}
+
+/// What the layers of a picture have in common.
+pub struct Inside<'a> {
+    pub image: &'a Image,
+    pub colours: i64,
+    pub masks: Masks,
+    pub widths: Widths,
+}
+
+/// Layer k.
+pub fn layer(k: i64, name: &str, inside: &Inside, random: &mut Random) -> Layer {
+    let image = inside.image;
+    let mut layer = Layer::new(saved_rectangle(k, 0, inside, random)).named(name);
     // Limits: the border's corner is (0,0), and the header's initial length is
     // the 375 of a new layer, not 0.
     layer.image_border = Rectangle::new(0, 0, image.width as i32, image.height as i32);
@@ -38,27 +78,25 @@ pub fn layer(name: &str, masks: Masks, image: &Image, colours: i64, random: &mut
     layer.visible = u8::from(!random.one_in(3));
     layer.protected = u8::from(random.one_in(3));
     layer.blend_count = 5;
-    if masks == Masks::TransparencyAndUser {
+    if inside.masks == Masks::TransparencyAndUser {
         layer.mask_border = layer.image_border;
-        layer.mask_saved = saved_rectangle(image, 8, random);
+        layer.mask_saved = saved_rectangle(k, 2, inside, random);
     }
-    for (bitmap, channel) in channels(image, masks, random) {
-        let plane = plane(&layer, image, bitmap, colours, random);
+    for (bitmap, channel) in channels(image, inside.masks, random) {
+        let plane = plane(&layer, inside, bitmap, random);
         let content = match image.compression {
             0 => plane,
             _ => packed_form(&plane),
         };
-        layer = layer.with(bitmap, channel, content);
+        layer = layer.with_rows(inside.widths.form(), bitmap, channel, content);
     }
     layer
 }
 
 /// Bitmap and channel of each of a layer's channels, in any order.
 fn channels(image: &Image, masks: Masks, random: &mut Random) -> Vec<(u16, u16)> {
-    let mut channels = match image.depth {
-        24 => vec![(0, 1), (0, 2), (0, 3)],
-        _ => vec![(0, 0)],
-    };
+    let colours = image.colour_codes();
+    let mut channels: Vec<(u16, u16)> = colours.map(|channel| (0, channel)).collect();
     if masks != Masks::Without {
         channels.push((1, 0));
     }
@@ -69,17 +107,13 @@ fn channels(image: &Image, masks: Masks, random: &mut Random) -> Vec<(u16, u16)>
     channels
 }
 
-/// A part of the image. Limits: it is not empty, and its width is a multiple of
-/// 32 at 1 bit and of 4 at 8 bits. At 4 bits GIMP reads every width, so there
-/// it meets padding.
-fn saved_rectangle(image: &Image, depth: u16, random: &mut Random) -> Rectangle {
-    let step = match depth {
-        1 => 32,
-        4 => 1,
-        _ => 4,
-    };
-    let width = step * random.between(1, i64::from(image.width) / step);
-    let height = random.between(1, i64::from(image.height));
+/// A part of the image for a bitmap of layer k. Limit: it is not empty.
+fn saved_rectangle(k: i64, bitmap: u16, inside: &Inside, random: &mut Random) -> Rectangle {
+    let image = inside.image;
+    let bits = image.bits(bitmap);
+    let width = inside.widths.width(k, bits, image.width, random);
+    // Two rows at least: one would not show how long it is.
+    let height = random.between(2, i64::from(image.height));
     let left = random.between(0, i64::from(image.width) - width);
     let top = random.between(0, i64::from(image.height) - height);
     let [left, top, right, bottom] =
@@ -87,15 +121,12 @@ fn saved_rectangle(image: &Image, depth: u16, random: &mut Random) -> Rectangle 
     Rectangle::new(left, top, right, bottom)
 }
 
-fn plane(layer: &Layer, image: &Image, bitmap: u16, colours: i64, random: &mut Random) -> Vec<u8> {
-    let bits = match bitmap {
-        0 => usize::from(image.depth.min(8)),
-        _ => 8,
-    };
+fn plane(layer: &Layer, inside: &Inside, bitmap: u16, random: &mut Random) -> Vec<u8> {
+    let bits = inside.image.bits(bitmap) as usize;
     let width = layer.saved(bitmap).width() as usize;
     let height = layer.saved(bitmap).height() as usize;
-    let row = layer.row_length(image, bitmap) as usize;
-    pixels(width * height, colours, random)
+    let row = layer.row_length(inside.image, bitmap, inside.widths.form()) as usize;
+    pixels(width * height, inside.colours, random)
         .chunks(width)
         .flat_map(|line| joined(line, bits, row))
         .collect()

@@ -3,7 +3,7 @@
 //! stands here and in the files beside this one.
 
 use super::creator::{self, Field};
-use super::layers::{layer, names, Masks};
+use super::layers::{layer, names, Inside, Masks, Widths};
 use crate::random::Random;
 use crate::write::{Image, InBank, Picture};
 
@@ -19,6 +19,7 @@ struct Subject {
     grey: bool,
     layers: usize,
     masks: Masks,
+    widths: Widths,
 }
 
 const fn colour(name: &'static str, layers: usize, masks: Masks) -> Subject {
@@ -28,6 +29,7 @@ const fn colour(name: &'static str, layers: usize, masks: Masks) -> Subject {
         grey: false,
         layers,
         masks,
+        widths: Widths::Whole,
     }
 }
 
@@ -39,6 +41,7 @@ const fn grey(name: &'static str, layers: usize) -> Subject {
         grey: true,
         layers,
         masks: Masks::Without,
+        widths: Widths::Whole,
     }
 }
 
@@ -49,10 +52,21 @@ const fn palette(name: &'static str, depth: u16) -> Subject {
         grey: false,
         layers: 1,
         masks: Masks::Without,
+        widths: Widths::Whole,
     }
 }
 
-const SUBJECTS: [Subject; 13] = [
+/// The subject with rows as GIMP takes them, without padding. The first layer
+/// has that width, and each one more a pixel more.
+const fn unpadded(subject: Subject, first: i64) -> Subject {
+    Subject {
+        widths: Widths::From(first),
+        ..subject
+    }
+}
+
+/// Paletted images have one layer: a width needs a file.
+const SUBJECTS: [Subject; 26] = [
     colour("layers-1", 1, Masks::Without),
     colour("layers-2", 2, Masks::Without),
     colour("layers-11", 11, Masks::Without),
@@ -66,6 +80,22 @@ const SUBJECTS: [Subject; 13] = [
     palette("palette-8", 8),
     palette("palette-4", 4),
     palette("palette-1", 1),
+    unpadded(colour("unpadded-layers", 9, Masks::Without), 1),
+    unpadded(colour("unpadded-transparency", 9, Masks::Transparency), 1),
+    unpadded(
+        colour("unpadded-user-mask", 9, Masks::TransparencyAndUser),
+        1,
+    ),
+    unpadded(grey("unpadded-grey", 9), 1),
+    unpadded(palette("unpadded-palette-1", 8), 1),
+    unpadded(palette("unpadded-palette-2", 8), 2),
+    unpadded(palette("unpadded-palette-3", 8), 3),
+    unpadded(palette("unpadded-palette-4", 8), 4),
+    unpadded(palette("unpadded-palette-5", 8), 5),
+    unpadded(palette("unpadded-palette-6", 8), 6),
+    unpadded(palette("unpadded-palette-7", 8), 7),
+    unpadded(palette("unpadded-palette-8", 8), 8),
+    unpadded(palette("unpadded-palette-9", 8), 9),
 ];
 
 /// Metric and value.
@@ -103,10 +133,15 @@ fn picture(subject: &Subject, compression: u16, creator: &[Field], random: &mut 
     } else {
         256
     };
-    let layers = names(subject.layers, random)
-        .iter()
-        .map(|name| layer(name, subject.masks, &image, colours, random))
-        .map(InBank::Layer)
+    let inside = Inside {
+        image: &image,
+        colours,
+        masks: subject.masks,
+        widths: subject.widths,
+    };
+    let layers = (0..)
+        .zip(names(subject.layers, random))
+        .map(|(k, name)| InBank::Layer(layer(k, &name, &inside, random)))
         .collect();
     let mut picture = Picture::new(image)
         .skipped(THUMBNAIL, 24, random.bytes(30))

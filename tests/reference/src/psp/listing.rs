@@ -5,7 +5,7 @@
 use super::chunks::{
     BlockHeader, ChannelChunk, FileHeader, ImageChunk, LayerChunk, PaletteChunk, MARK, SIGNATURE,
 };
-use super::rectangle::row;
+use super::rectangle::rows;
 use super::{number, part, INPUT_LIMIT};
 
 pub const IMAGE: u16 = 0;
@@ -19,7 +19,7 @@ pub const THUMBNAIL: u16 = 9;
 pub const FIRST_UNKNOWN: u16 = 12;
 
 /// Numbers of an entry.
-pub const ENTRY_NUMBERS: usize = 13;
+pub const ENTRY_NUMBERS: usize = 14;
 
 #[derive(Clone, Copy, Debug, Default, PartialEq, Eq)]
 pub struct Entry {
@@ -36,6 +36,7 @@ pub struct Entry {
     pub width: u32,
     pub height: u32,
     pub plane_length: u32,
+    pub row: u32,
 }
 
 impl Entry {
@@ -54,6 +55,7 @@ impl Entry {
             self.width,
             self.height,
             self.plane_length,
+            self.row,
         ]
     }
 }
@@ -95,7 +97,7 @@ pub fn list(input: &[u8], room: usize) -> Listing {
     }
 }
 
-/// Lists into a table of numbers, thirteen an entry, room rounded down.
+/// Lists into a table of numbers, fourteen an entry, room rounded down.
 /// Returns number, place and count; numbers past the entries stay as they are.
 pub fn list_into(input: &[u8], table: &mut [u32]) -> (u32, u64, u32) {
     let listing = list(input, table.len() / ENTRY_NUMBERS);
@@ -448,9 +450,10 @@ impl<'a> Walk<'a> {
             Some(layer) if is_expected(&chunk, &image, layer) => plane(&chunk, &image, layer),
             _ => return refuse(number::NOT_EXPECTED, place),
         };
-        if u64::from(chunk.plane) != plane.length {
-            return refuse(number::VALUE_NOT_PERMITTED, chunk_start);
-        }
+        let row = match plane.row(u64::from(chunk.plane)) {
+            Some(row) => row,
+            None => return refuse(number::VALUE_NOT_PERMITTED, chunk_start),
+        };
         let content_start = chunk_start + ChannelChunk::SIZE;
         self.unit(content_start, stored)?;
         let entry = Entry {
@@ -463,6 +466,7 @@ impl<'a> Walk<'a> {
             width: plane.width as u32,
             height: plane.height as u32,
             plane_length: chunk.plane,
+            row: row as u32,
             ..Entry::default()
         };
         let owned = BlockHeader::SIZE + ChannelChunk::SIZE + stored;
@@ -524,7 +528,15 @@ struct Plane {
     layer: u16,
     width: u64,
     height: u64,
-    length: u64,
+    bits: u64,
+}
+
+impl Plane {
+    /// The row of a plane of that length: the first of its forms that gives it.
+    /// Where they give the same, as they do without any height, it is padded.
+    fn row(&self, length: u64) -> Option<u64> {
+        rows(self.width, self.bits).find(|row| row * self.height == length)
+    }
 }
 
 /// The plane of an expected channel. The layer's chunk has been judged: sides
@@ -538,12 +550,10 @@ fn plane(chunk: &ChannelChunk, image: &ImageChunk, layer: &OpenLayer) -> Plane {
         0 => image.colour_bits(),
         _ => 8,
     };
-    let width = saved.width().unsigned_abs();
-    let height = saved.height().unsigned_abs();
     Plane {
         layer: layer.number,
-        width,
-        height,
-        length: row(width, bits) * height,
+        width: saved.width().unsigned_abs(),
+        height: saved.height().unsigned_abs(),
+        bits,
     }
 }

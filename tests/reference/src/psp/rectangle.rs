@@ -1,6 +1,7 @@
 //! Rectangles: signed corners, the lower right one exclusive.
 
 use super::{GREATEST_COORDINATE, LEAST_COORDINATE, SIDE_LIMIT};
+use std::iter;
 
 #[derive(Clone, Copy, Debug, Default, PartialEq, Eq)]
 pub struct Rectangle {
@@ -78,9 +79,17 @@ pub fn intersection(one: Rectangle, other: Rectangle) -> Rectangle {
     }
 }
 
-/// Bytes of a row: pixels of that many bits, padded to four bytes.
-pub fn row(width: u64, bits: u64) -> u64 {
+/// Bytes of a padded row: pixels of that many bits in whole groups of four
+/// bytes.
+pub fn padded_row(width: u64, bits: u64) -> u64 {
     let used = width.saturating_mul(bits);
     let groups = used / 32 + u64::from(used % 32 != 0);
     4 * groups
+}
+
+/// The bytes that a row may have, in the order in which they are tried: padded,
+/// and for pixels of a byte each also without padding.
+pub fn rows(width: u64, bits: u64) -> impl Iterator<Item = u64> {
+    let unpadded = Some(width).filter(|_| bits == 8);
+    iter::once(padded_row(width, bits)).chain(unpadded)
 }

@@ -6,10 +6,13 @@
 
 use crate::psp::planes::packed_form;
 use crate::psp::rectangle::Rectangle;
-use crate::write::{Image, InBank, Layer, Picture};
+use crate::write::{Form, Image, InBank, Layer, Picture};
 
 const WIDTH: i32 = 96;
 const HEIGHT: i32 = 64;
+
+/// No ink has this level, so padding that is taken for a pixel shows.
+const PADDING: u8 = 0xEE;
 
 /// How much of a pixel an ink covers, 0 to 255, by its place on the canvas.
 type Coverage = fn(i32, i32) -> u8;
@@ -31,7 +34,7 @@ const fn ink(name: &'static str, saved: [i32; 4], colour: [u8; 3], cut: Option<C
     }
 }
 
-/// Widths are multiples of 4, as other readers of the format need them. The
+/// Widths are multiples of 4, so that both forms of a row are the same. The
 /// handle's stripe leaves the canvas on the right, the marks above the corner.
 const INKS: [Ink; 11] = [
     ink("Underglaze", [0, 0, 96, 64], [246, 240, 226], None),
@@ -47,7 +50,39 @@ const INKS: [Ink; 11] = [
     ink("Flux", [20, 14, 76, 50], [236, 244, 250], Some(disc)),
 ];
 
+/// How a decal differs from the inks' table.
+struct Cut {
+    /// Columns that an ink is less wide, by its place in the table.
+    less: fn(usize) -> i32,
+    /// The rectangle of an ink's user mask, by its saved rectangle.
+    masked: fn(&Ink, Rectangle) -> Option<Rectangle>,
+    form: Form,
+}
+
 pub fn mug() -> Picture {
+    decal(&Cut {
+        less: |_| 0,
+        masked: |ink, saved| Some(saved).filter(|_| ink.name == "Outline"),
+        form: Form::Padded,
+    })
+}
+
+/// The decal without the last one, two or three columns of each ink, in turn:
+/// no width is a multiple of 4. Three inks have a user mask, of another
+/// rectangle than their own.
+pub fn narrow_mug(form: Form) -> Picture {
+    decal(&Cut {
+        less: |ink| 1 + ink as i32 % 3,
+        masked: |ink, saved| {
+            let Rectangle { left, top, .. } = saved;
+            let inner = Rectangle::new(left + 4, top + 3, saved.right, saved.bottom);
+            Some(inner).filter(|_| ["Blue", "Red", "Outline"].contains(&ink.name))
+        },
+        form,
+    })
+}
+
+fn decal(cut: &Cut) -> Picture {
     let mut image = Image {
         width: WIDTH as u32,
         height: HEIGHT as u32,
@@ -57,14 +92,17 @@ pub fn mug() -> Picture {
     image.resolution = 300.0f64.to_bits();
     image.metric = 1;
     image.active_layer = 4;
-    let layers = INKS.iter().map(|ink| InBank::Layer(layer(ink)));
+    let inks = INKS.iter().enumerate();
+    let layers = inks.map(|(at, ink)| InBank::Layer(layer(ink, at, cut)));
     Picture::new(image)
         .skipped(1, 0, creator())
         .bank(layers.collect())
 }
 
-fn layer(ink: &Ink) -> Layer {
+fn layer(ink: &Ink, at: usize, cut: &Cut) -> Layer {
     let [left, top, right, bottom] = ink.saved;
+    let right = right - (cut.less)(at);
+    let form = cut.form;
     let saved = Rectangle::new(left, top, right, bottom);
     let mut layer = Layer::new(saved).named(ink.name);
     // The border is the canvas, and as much more as the ink needs.
@@ -79,25 +117,29 @@ fn layer(ink: &Ink) -> Layer {
     layer.blend_count = 5;
     layer.blend_ranges = [0, 0, 255, 255].repeat(10).try_into().unwrap_or([0; 40]);
     for (channel, &level) in (1..).zip(&ink.colour) {
-        layer = layer.with(0, channel, plane(saved, |_, _| level));
+        layer = layer.with_rows(form, 0, channel, plane(saved, form, |_, _| level));
     }
-    if let Some(cut) = ink.cut {
-        layer = layer.with(1, 0, plane(saved, cut));
+    if let Some(coverage) = ink.cut {
+        layer = layer.with_rows(form, 1, 0, plane(saved, form, coverage));
     }
-    if ink.name == "Outline" {
+    if let Some(masked) = (cut.masked)(ink, saved) {
         layer.mask_border = layer.image_border;
-        layer.mask_saved = saved;
+        layer.mask_saved = masked;
         layer.linked = 1;
-        layer = layer.with(2, 0, plane(saved, upper_half));
+        layer = layer.with_rows(form, 2, 0, plane(masked, form, upper_half));
     }
     layer
 }
 
-/// The packed plane of a rectangle; its rows need no padding.
-fn plane(saved: Rectangle, level: impl Fn(i32, i32) -> u8) -> Vec<u8> {
-    let rows = saved.top..saved.bottom;
-    let pixels = rows.flat_map(|y| (saved.left..saved.right).map(move |x| (x, y)));
-    packed_form(&pixels.map(|(x, y)| level(x, y)).collect::<Vec<u8>>())
+/// The packed plane of a rectangle.
+fn plane(saved: Rectangle, form: Form, level: impl Fn(i32, i32) -> u8) -> Vec<u8> {
+    let length = form.row(saved.width() as u64, 8) as usize;
+    let row = |y| {
+        let mut row: Vec<u8> = (saved.left..saved.right).map(|x| level(x, y)).collect();
+        row.resize(length, PADDING);
+        row
+    };
+    packed_form(&(saved.top..saved.bottom).flat_map(row).collect::<Vec<u8>>())
 }
 
 fn covered(inside: bool) -> u8 {

@@ -80,15 +80,23 @@ fn packer(checks: &mut Checks) {
 fn placing(checks: &mut Checks) {
     let mut canvas = [0xEE; 4];
     let off = Rectangle::new(32_766, -9, 32_767, -8);
-    checks.equal("off the canvas", place(2, 2, &mut canvas, off, &[0; 4]), 0);
     let wide = Rectangle::new(0, 0, 4_097, 0);
-    checks.equal("too wide", place(2, 2, &mut canvas, wide, &[]), 41);
-    checks.equal(
-        "plane length",
-        place(2, 2, &mut canvas, Rectangle::new(0, 0, 1, 1), &[0]),
-        42,
-    );
-    checks.equal("canvas first", place(2, 3, &mut canvas, wide, &[0]), 40);
+    let one = Rectangle::new(0, 0, 1, 1);
+    let empty = Rectangle::new(0, 0, 2, 0);
+    let mut check = |name, height, saved, plane: &[u8], row, number| {
+        let answer = place(2, height, &mut canvas, saved, plane, row);
+        checks.equal(name, answer, number);
+    };
+    check("off the canvas", 2, off, &[0; 4], 4, 0);
+    check("off it without padding", 2, off, &[0], 1, 0);
+    check("nothing", 2, empty, &[], 2, 0);
+    check("nothing, padded", 2, empty, &[], 4, 0);
+    check("canvas first", 3, wide, &[0], 9, 40);
+    check("too wide", 2, wide, &[], 9, 41);
+    check("plane length", 2, one, &[0], 4, 42);
+    check("plane length without padding", 2, one, &[0; 4], 1, 42);
+    check("a row of no form", 2, one, &[0; 2], 2, 42);
+    check("nothing with a row of no form", 2, empty, &[], 3, 42);
     checks.equal("untouched", canvas, [0xEE; 4]);
 }
 

@@ -68,10 +68,10 @@ fn records_and_counts(checks: &mut Checks) {
     };
     checks.equal(
         "records",
-        line(57 * 13, 57),
+        line(57 * 14, 57),
         format!("R 0 {} 57", eleven.len()),
     );
-    checks.equal("few records", line(57 * 13, 3), line(3 * 13 + 12, 57));
+    checks.equal("few records", line(57 * 14, 3), line(3 * 14 + 13, 57));
     let counted = count(&Reference, usize::MAX, &eleven).line;
     checks.equal("counted", counted, format!("T 0 {} 57", eleven.len()));
 }

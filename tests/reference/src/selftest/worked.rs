@@ -5,7 +5,7 @@ use crate::psp::canvas::place;
 use crate::psp::listing::list;
 use crate::psp::planes::{packed_form, PlaneAnswer};
 use crate::psp::program::listing_text;
-use crate::psp::rectangle::{row, Rectangle};
+use crate::psp::rectangle::{padded_row, Rectangle};
 use crate::psp::views::layer_name;
 use crate::samples;
 
@@ -63,18 +63,22 @@ fn other_values(checks: &mut Checks) {
     checks.equal("a pair", packed_form(&[0x41, 0x41]), vec![2, 0x41, 0x41]);
     let packed = packed_form(&[0x41, 0x42, 0x42, 0x42]);
     checks.equal("a literal and a run", packed, vec![1, 0x41, 0x83, 0x42]);
-    checks.equal("rows at 1 bit", (row(32, 1), row(33, 1)), (4, 8));
+    let rows = (padded_row(32, 1), padded_row(33, 1));
+    checks.equal("rows at 1 bit", rows, (4, 8));
     let mut canvas = [0xEE; 6];
     let saved = Rectangle::new(-1, 1, 1, 2);
-    let number = place(3, 2, &mut canvas, saved, &[0x10, 0x11, 0, 0]);
     let expected = (0, [0xEE, 0xEE, 0xEE, 0x11, 0xEE, 0xEE]);
+    let number = place(3, 2, &mut canvas, saved, &[0x10, 0x11, 0, 0], 4);
     checks.equal("placing", (number, canvas), expected);
+    canvas = [0xEE; 6];
+    let number = place(3, 2, &mut canvas, saved, &[0x10, 0x11], 2);
+    checks.equal("placing without padding", (number, canvas), expected);
 }
 
 fn listing(checks: &mut Checks) {
     let file = samples::grey521().bytes();
     let entries = "0 image 0 36 52\n1 bank 0 88 14\n2 layer 1 102 389 0\n";
-    let channel = "3 channel 2 491 30 0 0 0 517 4 1 1 4\n";
+    let channel = "3 channel 2 491 30 0 0 0 517 4 1 1 4 4\n";
     let whole = format!("answer 0 place 521 entries 4\n{}{}", entries, channel);
     checks.equal("the file of 521 bytes", listing_text(&file), whole);
     let cut = format!("answer 2 place 517 entries 3\n{}", entries);

@@ -16,7 +16,7 @@ mul-result-2 c = omega (arith, pixels (c .args .w) (c .args .bits) (c .pre .0) (
 
 returns : tie.Need-returns
 unfolding rowOf
-returns c = refl
+returns c = (refl, omega (arith, pixels (c .args .w) (c .args .bits) (c .pre .0) (c .pre .1)))
 
 pub row-bytes-spec : {M : Type 1} → statement M
 row-bytes-spec = tie.close (tie.spec mul-result add-result mul-result-2 returns)

@@ -1,0 +1,91 @@
+//! Writes pictures of each depth twice into the current folder, with the same pixels and with rows
+//! in either form, and pictures with a plane length that is of no form. Built and run by host/check.
+
+#[path = "../../tests/reference/src"]
+mod reference {
+    #[allow(dead_code)]
+    pub mod psp;
+    #[allow(dead_code)]
+    pub mod write;
+}
+
+use psp::planes::packed_form;
+use psp::rectangle::Rectangle;
+use reference::{psp, write};
+use std::fs;
+use std::io;
+use write::{Form, Image, InBank, InLayer, Layer, Picture};
+
+/// No pixel has this byte, so padding that is taken for one shows.
+const PADDING: u8 = 0xEE;
+
+fn main() -> io::Result<()> {
+    for depth in [1, 4, 8, 24] {
+        for (form, name) in Form::BOTH.iter().zip(["padded", "unpadded"]) {
+            let colours = if depth < 8 { Form::Padded } else { *form };
+            save(depth, name, &picture(depth, colours, *form))?;
+        }
+    }
+    save(1, "wrong", &picture(1, Form::Unpadded, Form::Unpadded))?;
+    save(4, "wrong", &picture(4, Form::Unpadded, Form::Padded))?;
+    save(8, "wrong", &with_length(8, 0, 23))?;
+    save(24, "wrong", &with_length(24, 2, 11))
+}
+
+fn save(depth: u16, name: &str, picture: &Picture) -> io::Result<()> {
+    fs::write(format!("rows{}-{}.psp", depth, name), picture.bytes())
+}
+
+/// A picture of 4 by 3 pixels with one layer of 7 by 3 that leaves it on the left, on the right and
+/// below, and a user mask of 5 by 2 that leaves it above and on the right; raw or packed, by its depth.
+fn picture(depth: u16, colours: Form, masks: Form) -> Picture {
+    let image = Image {
+        width: 4,
+        height: 3,
+        compression: u16::from(depth == 4 || depth == 24),
+        ..Image::new(depth, depth == 8)
+    };
+    let mut layer = Layer::new(Rectangle::new(-2, 1, 5, 4)).named("Rows");
+    layer.mask_border = Rectangle::new(0, -1, 6, 3);
+    layer.mask_saved = Rectangle::new(1, -1, 6, 1);
+    for channel in image.colour_codes() {
+        layer = with_plane(layer, &image, colours, [0, channel]);
+    }
+    for bitmap in [1, 2] {
+        layer = with_plane(layer, &image, masks, [bitmap, 0]);
+    }
+    Picture::new(image)
+        .palette(vec![[0; 4], [255; 4]])
+        .bank(vec![InBank::Layer(layer)])
+}
+
+/// A layer with a plane whose pixels differ from each other and from those of its other planes.
+fn with_plane(layer: Layer, image: &Image, form: Form, [bitmap, channel]: [u16; 2]) -> Layer {
+    let saved = layer.saved(bitmap);
+    let row = layer.row_length(image, bitmap, form) as u8;
+    let first = [0, 160, 200][usize::from(bitmap)] + 40 * channel as u8;
+    let byte = |x: u8, y: u8| match i64::from(x) < saved.width() {
+        true => first + 8 * y + x,
+        false => PADDING,
+    };
+    let line = |y| (0..row).map(move |x| byte(x, y));
+    let plane: Vec<u8> = (0..saved.height() as u8).flat_map(line).collect();
+    let content = match image.compression {
+        0 => plane,
+        _ => packed_form(&plane),
+    };
+    layer.with_rows(form, bitmap, channel, content)
+}
+
+/// A padded picture in which a bitmap's planes say another length.
+fn with_length(depth: u16, bitmap: u16, length: u32) -> Picture {
+    let mut picture = picture(depth, Form::Padded, Form::Padded);
+    let layers = picture.layers_mut().into_iter();
+    for part in layers.flat_map(|layer| &mut layer.inside) {
+        match part {
+            InLayer::Channel(channel) if channel.bitmap == bitmap => channel.plane = Some(length),
+            _ => {}
+        }
+    }
+    picture
+}
