@@ -4,10 +4,10 @@ use mathlib.Core.Bool.{true, false, not}
 use mathlib.Core.List.{List}
 use Prim.Native.Nat.{ℕ}
 use native.Mathlib.Omega.{arith}
-use borrow.Author.Tests.{leb-true, eqb-true}
+use borrow.Author.Tests.{leb-true, eqb-true, not-true, not-false}
 use lib.ListN.{length}
 use Rattle.laws.specs.Results.{Result}
-use Rattle.laws.proofs.Choice.{pick-yes, pick-no}
+use Rattle.laws.proofs.Choice.{pick-yes, pick-no, pick-ind}
 use Rattle.laws.proofs.Tests.{both}
 use Rattle.rect.specs.declared.Rect.{Rect}
 use Rattle.rect.specs.Rect.{widthOf, isWithin}
@@ -58,3 +58,17 @@ module _ (width height : ℕ) (canvas : List ℕ) (r : Rect) (plane : List ℕ) 
               holds = form-holds (widthOf r) true row (parts .0);
               whole = eqb-true _ _ (parts .1);
             }
+
+  -- what holds of each of the four answers, under the tests that lead there, holds of the call
+  pub place-ind :
+      (P : Result ℕ → Type 0) → (isCanvas width height (length canvas) ≡ false → P (untouched 40 canvas))
+      → (isCanvas width height (length canvas) ≡ true → isWithin r ≡ false → P (untouched 41 canvas))
+      → (isCanvas width height (length canvas) ≡ true → isWithin r ≡ true → isPlaneOf r row (length plane) ≡ false → P (untouched 42 canvas))
+      → (isCanvas width height (length canvas) ≡ true → isWithin r ≡ true → isPlaneOf r row (length plane) ≡ true
+      → P (record { told = 0; dest = onCanvas width row r plane canvas }))
+      → P said
+  unfolding placed
+  place-ind P no-canvas no-rect no-plane well =
+      pick-ind P _ _ _ (λ h. no-canvas (not-true _ h)) (λ c.
+      pick-ind P _ _ _ (λ h. no-rect (not-false _ c) (not-true _ h)) (λ w.
+      pick-ind P _ _ _ (λ h. no-plane (not-false _ c) (not-false _ w) (not-true _ h)) (λ h. well (not-false _ c) (not-false _ w) (not-false _ h))))

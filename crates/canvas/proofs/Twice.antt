@@ -1,20 +1,19 @@
 -- A plane that is placed a second time changes nothing.
 use mathlib.Core.Path.{_≡_, refl, sym, ap, _∙_}
-use mathlib.Core.Bool.{Bool, true, false}
+use mathlib.Core.Bool.{Bool}
 use mathlib.Core.List.{List}
 use Prim.Native.Nat.{ℕ, _/_, _%_}
 use native.Mathlib.Omega.{arith}
 use lib.IntN.{pos}
-use lib.ListN.{length, getD}
+use lib.ListN.{getD}
 use Rattle.laws.specs.Choice.{pick}
 use Rattle.laws.specs.Results.{Result}
 use Rattle.laws.proofs.Choice.{pick-yes, pick-no, pick-ind}
 use Rattle.rect.specs.declared.Rect.{Rect}
-use Rattle.rect.specs.Rect.{isWithin}
 use Rattle.rect.specs.Shared.{hasPixel}
-use Rattle.canvas.specs.Placing.{isCanvas, isPlaneOf, byteOf, pixelOf, onCanvas, placed}
+use Rattle.canvas.specs.Placing.{isCanvas, byteOf, pixelOf, onCanvas, placed}
 use Rattle.canvas.proofs.Pixels.{placed-length, placed-at, placed-is}
-use Rattle.canvas.proofs.PlaceTests.{bad-canvas, bad-rect, bad-plane, all-well}
+use Rattle.canvas.proofs.PlaceTests.{bad-canvas, bad-rect, bad-plane, all-well, place-ind}
 
 -- a choice made twice is the choice made once
 again : {A : Type 0} (b : Bool) (x y : A) → pick b x y ≡ pick b x (pick b x y)
@@ -37,31 +36,12 @@ placed-twice width row r plane canvas =
 pub place-twice :
     (width height : ℕ) (canvas : List ℕ) (r : Rect) (plane : List ℕ) (row : ℕ)
     → placed width height (placed width height canvas r plane row .dest) r plane row ≡ placed width height canvas r plane row
-place-twice width height canvas r plane row = by-canvas (isCanvas width height (length canvas)) refl
-  where
-    on : List ℕ
-    on = onCanvas width row r plane canvas
-
-    next : Result ℕ → Result ℕ
-    next s = placed width height (s .dest) r plane row
-
-    by-plane :
-        isCanvas width height (length canvas) ≡ true → isWithin r ≡ true → (b : Bool) → isPlaneOf r row (length plane) ≡ b
-        → next (placed width height canvas r plane row) ≡ placed width height canvas r plane row
-    by-plane c w true h =
-        let e = all-well width height canvas r plane row c w h in
-        let c′ = ap (isCanvas width height) (placed-length width row r plane canvas) ∙ c in
-        let twice : _≡_ {A = Result ℕ} (record { told = 0; dest = onCanvas width row r plane on }) (record { told = 0; dest = on }) =
-        λ i. record { told = 0; dest = placed-twice width row r plane canvas i } in
-        ap next e ∙ all-well width height on r plane row c′ w h ∙ twice ∙ sym e
-    by-plane c w false h = ap next (bad-plane width height canvas r plane row c w h)
-
-    by-rect :
-        isCanvas width height (length canvas) ≡ true → (b : Bool) → isWithin r ≡ b
-        → next (placed width height canvas r plane row) ≡ placed width height canvas r plane row
-    by-rect c true h = by-plane c h (isPlaneOf r row (length plane)) refl
-    by-rect c false h = ap next (bad-rect width height canvas r plane row c h)
-
-    by-canvas : (b : Bool) → isCanvas width height (length canvas) ≡ b → next (placed width height canvas r plane row) ≡ placed width height canvas r plane row
-    by-canvas true h = by-rect h (isWithin r) refl
-    by-canvas false h = ap next (bad-canvas width height canvas r plane row h)
+place-twice width height canvas r plane row =
+    place-ind width height canvas r plane row (λ (s : Result ℕ). placed width height (s .dest) r plane row ≡ s)
+    (bad-canvas width height canvas r plane row)
+    (bad-rect width height canvas r plane row)
+    (bad-plane width height canvas r plane row)
+    (λ c w p.
+    let on = onCanvas width row r plane canvas in
+    let still = ap (isCanvas width height) (placed-length width row r plane canvas) ∙ c in
+    all-well width height on r plane row still w p ∙ (λ i. record { told = 0; dest = placed-twice width row r plane canvas i }))

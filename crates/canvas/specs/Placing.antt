@@ -61,12 +61,16 @@ placed width height canvas r plane row =
     (record { told = 0; dest = onCanvas width row r plane canvas })))
 
 -- what an accepted call leaves, in other words (`place-shows`): a row in one of its two forms; a canvas pixel (x, y) of the rectangle has the
--- plane's byte at row times y plus x, counted from the rectangle's corner; any other pixel keeps its own
+-- plane's byte at row times y plus x, counted from the rectangle's corner, which the plane has and no padding is; any other pixel keeps its
+-- own
 pub record Shows (width height : ℕ) (before after : List ℕ) (r : Rect) (plane : List ℕ) (row : ℕ) : Type 0 where
   pub form : (row ≡ rowOf (widthOf r) 8) ⊎ (row ≡ widthOf r)
   pub long : length after ≡ length before
   pub inside :
       (x y : ℕ) → x < width → y < height → hasPixel r (pos x) (pos y) ≡ true
       → getD after (y * width + x) 0 ≡ getD plane (row * sideOf (r .top) (pos y) + sideOf (r .left) (pos x)) 0
+  pub held :
+      (x y : ℕ) → hasPixel r (pos x) (pos y) ≡ true
+      → (sideOf (r .left) (pos x) < widthOf r) × (row * sideOf (r .top) (pos y) + sideOf (r .left) (pos x) < length plane)
   pub outside :
       (x y : ℕ) → x < width → y < height → hasPixel r (pos x) (pos y) ≡ false → getD after (y * width + x) 0 ≡ getD before (y * width + x) 0

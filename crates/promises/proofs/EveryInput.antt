@@ -45,6 +45,7 @@ use Rattle.packer.specs.declared.told.Packed.{Packed}
 use Rattle.packer.specs.Packing.{packs}
 use Rattle.rect.specs.declared.Rect.{Rect}
 use Rattle.canvas.specs.Placing.{placed}
+use Rattle.canvas.proofs.PlaceTests.{place-ind}
 use Rattle.psp.specs.Recorded.{ListedRecords}
 use Rattle.promises.specs.EveryInput.{Exact, header, blocks, ListsExactly, Holds, Refuses, RefusesAtPacket}
 
@@ -217,9 +218,9 @@ pack-refuses plane dest =
 pub place-refuses :
     (width height : ℕ) (canvas : List ℕ) (r : Rect) (plane : List ℕ) (row : ℕ)
     → Refuses (λ (n : ℕ). n) 40 42 canvas (placed width height canvas r plane row)
-unfolding placed
 place-refuses width height canvas r plane row =
-    let R = Refuses (λ (n : ℕ). n) 40 42 canvas in
-    pick-ind R _ _ _ (λ _. refused-as 40 (omega arith) (omega arith)) (λ _.
-    pick-ind R _ _ _ (λ _. refused-as 41 (omega arith) (omega arith)) (λ _.
-    pick-ind R _ _ _ (λ _. refused-as 42 (omega arith) (omega arith)) (λ _. well-as 0 refl)))
+    place-ind width height canvas r plane row (Refuses (λ (n : ℕ). n) 40 42 canvas)
+    (λ c. refused-as 40 (omega arith) (omega arith))
+    (λ c w. refused-as 41 (omega arith) (omega arith))
+    (λ c w p. refused-as 42 (omega arith) (omega arith))
+    (λ c w p. well-as 0 refl)
