@@ -90,7 +90,7 @@ pub layers-numbered :
     → let es = listed s room .entries in (k : ℕ) (d : Entry) → k < length es → isLayer (getD es k d) ≡ true → getD es k d .layer ≡ layersIn (take k es)
 layers-numbered s room k d h z = ap (λ (e : Entry). e .layer) (each-right s room k d h .layer z .is)
 
--- a channel's row is one of its forms, the padded one wherever that makes the plane, and its plane length is row times height
+-- a channel's row is one of its forms, the padded one wherever that makes the plane, and as many rows as it is high are its plane
 pub rows-taken :
     (s : List ℕ) (room : ℕ)
     → let es = listed s room .entries in (k : ℕ) (d : Entry) → k < length es → isChannel (getD es k d) ≡ true → RowTaken (depthOf s) (getD es k d)
