@@ -24,7 +24,7 @@ extern "C" {
 /* ---- Version ---- */
 
 #define PSP_VERSION_MAJOR 0
-#define PSP_VERSION_MINOR 3
+#define PSP_VERSION_MINOR 4
 #define PSP_VERSION_PATCH 0
 #define PSP_VERSION (PSP_VERSION_MAJOR * 10000 + PSP_VERSION_MINOR * 100 + PSP_VERSION_PATCH)
 
@@ -102,6 +102,8 @@ typedef struct psp_entry {
   uint32_t row;      /* bytes of a row: padded to 4, or the width itself */
 } psp_entry;
 
+/* The place of 8 is that of the field: its first byte, and of a rectangle its first corner. Of several wrong fields in a chunk it is the
+ * earliest, but a channel's types come before its plane length. What is wrong between two fields is told at the later one. */
 typedef struct psp_listed {
   uint32_t number;  /* 0 to 12 */
   size_t place;     /* where; for 0 the input length */

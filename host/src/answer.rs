@@ -1,11 +1,9 @@
 //! Refusals in words: what was found, and what to do next.
 
-use crate::fields::{self, Block, HEADER, MARK};
-use crate::lines;
+use crate::fields::{self, Block, MARK};
 use crate::name;
+use crate::named;
 use crate::psp::ffi::*;
-use crate::shape;
-use crate::words::counted;
 
 /// A listing's refusal: its number and place, the table of what was found before it, the input as
 /// far as it was read, and the size of the file where that is known.
@@ -21,9 +19,11 @@ pub struct Refused<'a> {
 impl Refused<'_> {
     pub fn sentence(&self) -> String {
         let (found, next) = self.words();
+        // What is found of a field has commas of its own.
+        let sign = if self.number == WRONG_FIELD { ':' } else { ',' };
         format!(
-            "refused: {} at {}, {}; {}",
-            self.number, self.place, found, next
+            "refused: {} at {}{} {}; {}",
+            self.number, self.place, sign, found, next
         )
     }
 
@@ -145,71 +145,12 @@ impl Refused<'_> {
         }
     }
 
-    /// Only a plane length is named yet; where the kind of block has a known reason, that is told.
     fn wrong_field(&self) -> (String, &'static str) {
-        let header = self.place.checked_sub(HEADER);
-        let block = header.and_then(|place| fields::block(self.input, place));
-        let length = header.and_then(|place| self.wrong_plane_length(block?, place));
-        if let Some(found) = length {
-            let next = "often it is a bitmap's size in memory, \
-                        and such files are not read yet (docs/FIELD.md)";
-            return (found, next);
-        }
-        let found = format!(
-            "a field of {} has a value that is not permitted",
-            named(block)
-        );
-        let next = match block.map(|block| block.id) {
-            Some(4) => {
-                "often a saved rectangle is counted from its border's corner, \
-                 and such files are not read yet (docs/FIELD.md)"
-            }
-            _ => "open it in Paint Shop Pro and save it again in format 3.0",
+        let unnamed = || {
+            let found = "a field here has a value that is not permitted";
+            (found.to_string(), named::SAVE_AGAIN)
         };
-        (found, next)
-    }
-
-    /// A channel's plane length, and those that are permitted. None where it is not at fault: the
-    /// codes are judged first.
-    fn wrong_plane_length(&self, block: Block, header: usize) -> Option<String> {
-        let channel = fields::channel(self.input, header).filter(|_| block.id == 5)?;
-        if channel.bitmap > 5 || channel.channel > 3 {
-            return None;
-        }
-        let (image, layer) = self.found()?;
-        let bitmap = u32::from(channel.bitmap);
-        let bits = shape::bits(&image, bitmap);
-        let [_, _, width, height] = shape::sides(&shape::saved(&layer, bitmap));
-        let permitted = match shape::lengths(width, height, bits) {
-            (padded, Some(short)) => {
-                format!("{} bytes with padded rows or {} without", padded, short)
-            }
-            (padded, None) if bits < 8 => {
-                let why = "with padded rows, the only ones below 8 bits";
-                format!("{} bytes {}", padded, why)
-            }
-            (length, None) => format!("{} bytes", length),
-        };
-        Some(format!(
-            "the plane length of {} is {}, and {} by {} pixels of {} take {}",
-            named(Some(block)),
-            channel.plane,
-            width,
-            height,
-            counted(bits.into(), "bit"),
-            permitted
-        ))
-    }
-
-    /// The image, and the last layer before the place.
-    fn found(&self) -> Option<(ImageChunk, LayerChunk)> {
-        let known = |id| {
-            let is_it = move |entry: &Entry| entry.skipped == 0 && entry.id == id;
-            lines::entries(self.table).filter(is_it)
-        };
-        let image = fields::image(self.input, &known(0).next()?)?;
-        let layer = fields::layer(self.input, &known(4).last()?)?;
-        Some((image, layer))
+        named::field(self.place, self.table, self.input).unwrap_or_else(unnamed)
     }
 
     fn not_expected(&self) -> String {
@@ -235,7 +176,7 @@ impl Refused<'_> {
 
     /// The block whose header stands at the place.
     fn block(&self) -> String {
-        named(self.header())
+        by_kind(self.header())
     }
 
     fn header(&self) -> Option<Block> {
@@ -260,7 +201,7 @@ const KINDS: [&str; 12] = [
 ];
 
 /// A block by its kind and id.
-fn named(block: Option<Block>) -> String {
+fn by_kind(block: Option<Block>) -> String {
     match block {
         Some(block) => {
             let kind = KINDS.get(usize::from(block.id)).unwrap_or(&"an unknown");
@@ -388,7 +329,11 @@ mod tests {
         let planes = (20..=27).map(|number| refusal_inside(number, 0, 0));
         let others = planes.chain((40..=45).map(refusal));
         let unknown = [refused(99, 36, &input), refusal(99)];
-        let words = |sentence: String| sentence.splitn(2, ", ").nth(1).map(str::to_string);
+        // Behind number and place, so that these make no difference.
+        let words = |sentence: String| {
+            let said = sentence.strip_prefix("refused: ")?;
+            said.splitn(2, &[',', ':'][..]).nth(1).map(str::to_string)
+        };
         let mut all: Vec<Option<String>> =
             listing.chain(others).chain(unknown).map(words).collect();
         assert!(all.iter().flatten().all(|words| words.len() > 20));
@@ -477,85 +422,21 @@ mod tests {
     }
 
     #[test]
-    fn a_field_has_the_reason_that_genuine_files_often_have() {
-        holds(
-            &refused(8, 50, &with_block(4)),
-            &["a layer block", "often a saved"],
-        );
-        holds(
-            &refused(8, 50, &with_block(0)),
-            &["an image block", "save it again"],
-        );
-    }
-
-    /// A channel that is refused by 8, of an image of this depth and a layer whose saved rectangles
-    /// have 9 by 3 and 5 by 1 pixels.
-    fn refused_channel(depth: u8, [bitmap, channel, plane]: [u8; 3]) -> String {
+    fn a_field_is_told_behind_a_colon() {
         let mut input = with_block(0);
-        input.resize(88 + 389, 0);
-        input[50 + 19] = depth;
-        for (field, byte) in [(281, 9), (285, 3), (318, 5), (322, 1)] {
-            input[88 + HEADER + field] = byte;
-        }
-        input.extend_from_slice(&with_block(5)[36..]);
-        for (field, byte) in [
-            (4, plane),
-            (5, 0),
-            (6, 0),
-            (7, 0),
-            (8, bitmap),
-            (10, channel),
-        ] {
-            input[477 + HEADER + field] = byte;
-        }
-        let mut table = [0; 2 * ENTRY_NUMBERS];
-        table[..5].copy_from_slice(&[0, 0, 0, 36, 52]);
-        table[ENTRY_NUMBERS..][..5].copy_from_slice(&[4, 0, 1, 88, 389]);
-        let refused = Refused {
-            number: WRONG_FIELD,
-            place: 477 + HEADER,
-            table: &table,
-            input: &input,
-            size: None,
-        };
-        refused.sentence()
+        input.resize(36 + 52, 0);
+        let sentence =
+            "refused: 8 at 50: image block, image width 151587081: it must be 1 to 4,096; \
+                        open it in Paint Shop Pro and save it again in format 3.0";
+        assert_eq!(refused(8, 50, &input), sentence);
     }
 
     #[test]
-    fn a_plane_length_is_told_with_those_that_are_permitted() {
-        for depth in [8, 24] {
-            let sentence = refused_channel(depth, [0, 0, 35]);
-            let lengths = "9 by 3 pixels of 8 bits take 36 bytes with padded rows or 27 without; ";
-            let found = "the plane length of a channel block (id 5) is 35, and ";
-            holds(&sentence, &[found, lengths, "a bitmap's size in memory"]);
-        }
-        let lengths = "5 by 1 pixels of 8 bits take 8 bytes with padded rows or 5 without; ";
-        holds(&refused_channel(1, [2, 0, 27]), &["is 27, and ", lengths]);
-    }
-
-    #[test]
-    fn below_8_bits_one_plane_length_is_permitted() {
-        let why = "with padded rows, the only ones below 8 bits; ";
-        let four = refused_channel(4, [0, 0, 27]);
-        holds(
-            &four,
-            &["is 27, and 9 by 3 pixels of 4 bits take 24 bytes ", why],
-        );
-        let one = refused_channel(1, [0, 0, 6]);
-        holds(
-            &one,
-            &["is 6, and 9 by 3 pixels of 1 bit take 12 bytes ", why],
-        );
-    }
-
-    #[test]
-    fn codes_are_at_fault_before_a_plane_length() {
-        for codes in [[6, 0, 35], [0, 4, 35]] {
-            let sentence = refused_channel(8, codes);
-            holds(&sentence, &["a field of a channel block", "save it again"]);
-        }
-        let unlisted = refused(8, 50, &with_block(5));
-        holds(&unlisted, &["a field of a channel block", "save it again"]);
+    fn a_field_that_is_not_found_has_no_name() {
+        let sentence = "refused: 8 at 116: a field here has a value that is not permitted; \
+                        open it in Paint Shop Pro and save it again in format 3.0";
+        assert_eq!(refused(8, 116, &with_block(0)), sentence);
+        assert_eq!(refused(8, 116, &[]), sentence);
     }
 
     #[test]

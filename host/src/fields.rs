@@ -106,12 +106,12 @@ pub fn name(layer: &LayerChunk) -> &[u8] {
 }
 
 /// Little-endian fields one after another, none where the bytes end.
-struct Fields<'a> {
+pub struct Fields<'a> {
     rest: &'a [u8],
 }
 
 impl<'a> Fields<'a> {
-    fn at(input: &'a [u8], place: usize) -> Option<Fields<'a>> {
+    pub fn at(input: &'a [u8], place: usize) -> Option<Fields<'a>> {
         let rest = input.get(place..)?;
         Some(Fields { rest })
     }
@@ -129,7 +129,7 @@ impl<'a> Fields<'a> {
         field.try_into().ok()
     }
 
-    fn byte(&mut self) -> Option<u8> {
+    pub fn byte(&mut self) -> Option<u8> {
         self.bytes().map(u8::from_le_bytes)
     }
 
@@ -138,15 +138,15 @@ impl<'a> Fields<'a> {
         self.byte().map(|byte| u8::from(byte != 0))
     }
 
-    fn word(&mut self) -> Option<u16> {
+    pub fn word(&mut self) -> Option<u16> {
         self.bytes().map(u16::from_le_bytes)
     }
 
-    fn double_word(&mut self) -> Option<u32> {
+    pub fn double_word(&mut self) -> Option<u32> {
         self.bytes().map(u32::from_le_bytes)
     }
 
-    fn long(&mut self) -> Option<i32> {
+    pub fn long(&mut self) -> Option<i32> {
         self.bytes().map(i32::from_le_bytes)
     }
 
@@ -154,7 +154,7 @@ impl<'a> Fields<'a> {
         self.bytes().map(u64::from_le_bytes)
     }
 
-    fn rectangle(&mut self) -> Option<Rect> {
+    pub fn rectangle(&mut self) -> Option<Rect> {
         Some(Rect {
             left: self.long()?,
             top: self.long()?,

@@ -131,7 +131,7 @@ impl Listing {
     fn print(&mut self, input: &[u8], look: Look) -> Result<(), Failure> {
         self.hole = match self.answer.number {
             ACCEPTED | OVER_LIMIT | ENDS_TOO_SOON | TABLE_FULL => None,
-            _ => growth::hole(input, self.answer.place),
+            number => growth::hole(input, number, self.answer.place),
         };
         // Over the limit nothing is listed; what was printed is the listing of the beginning.
         if self.answer.number == OVER_LIMIT {

@@ -1,6 +1,8 @@
 //! What to do with the listing of a file that still grows, or is still filled.
 
-use crate::psp::ffi::{ACCEPTED, ENDS_TOO_SOON, ENTRY_NUMBERS, OVER_LIMIT, TABLE_FULL};
+use crate::psp::ffi::{
+    ACCEPTED, ENDS_TOO_SOON, ENTRY_NUMBERS, OVER_LIMIT, TABLE_FULL, WRONG_FIELD,
+};
 use std::time::Duration;
 
 /// The next step of a follower.
@@ -27,32 +29,41 @@ pub fn step(number: u32, may_be_filled: bool, quiet: Duration, idle: Duration) -
     }
 }
 
-/// A unit reaches no further from a refusal's place: a block header and the longest chunk.
+/// What is judged reaches no further from a refusal's place: a block header and the longest chunk.
 const REACH: usize = 14 + 375;
+
+/// From a wrong field's place the last byte of the longest field, a rectangle; the types behind a
+/// channel's plane length, by which it is judged, end sooner.
+const FIELD_REACH: usize = 15;
 
 /// So many zeros are no field that happens to be zero: more than a name has.
 const HOLE: usize = 512;
 
-/// Where zeros begin that may be filled yet: they stand from inside the unit at a refusal's place,
-/// for 512 bytes or to the end. A file whose room was taken before it was written looks like this.
-pub fn hole(input: &[u8], place: usize) -> Option<usize> {
-    let inside = place.checked_add(zeros_near(input.get(place..)?)?)?;
+/// Where zeros begin that may be filled yet: they stand from inside what a refusal at this place
+/// has judged, for 512 bytes or to the end. A file whose room was taken before it was written looks
+/// like this.
+pub fn hole(input: &[u8], number: u32, place: usize) -> Option<usize> {
+    let reach = match number {
+        WRONG_FIELD => FIELD_REACH,
+        _ => REACH,
+    };
+    let inside = place.checked_add(zeros_near(input.get(place..)?, reach)?)?;
     // What stands before the place was passed, and may be zeros that are not filled yet.
     let before = input.get(..inside)?.iter().rev();
     inside.checked_sub(before.take_while(|&&byte| byte == 0).count())
 }
 
-/// Where such zeros begin behind a place.
-fn zeros_near(near: &[u8]) -> Option<usize> {
+/// Where such zeros begin behind a place, within a reach.
+fn zeros_near(near: &[u8], reach: usize) -> Option<usize> {
     let mut start = 0;
-    for (at, &byte) in near.iter().enumerate().take(REACH + HOLE) {
+    for (at, &byte) in near.iter().enumerate().take(reach + HOLE) {
         if byte != 0 {
             start = at + 1;
         } else if at + 1 - start == HOLE {
             return Some(start);
         }
     }
-    let ends_here = near.len() < REACH + HOLE && start < near.len() && start <= REACH;
+    let ends_here = near.len() < reach + HOLE && start < near.len() && start <= reach;
     Some(start).filter(|_| ends_here)
 }
 
@@ -117,6 +128,7 @@ pub fn seconds(typed: &str) -> Option<Duration> {
 #[cfg(test)]
 mod tests {
     use super::*;
+    use crate::psp::ffi::WRONG_MARK;
 
     const IDLE: Duration = Duration::from_secs(10);
     const QUIET: Duration = Duration::from_secs(9);
@@ -155,6 +167,11 @@ mod tests {
         [vec![7; first], vec![0; zeros], vec![8; last]].concat()
     }
 
+    /// At a refusal that may have judged a whole chunk.
+    fn hole(input: &[u8], place: usize) -> Option<usize> {
+        super::hole(input, WRONG_MARK, place)
+    }
+
     #[test]
     fn zeros_to_the_end_are_a_hole() {
         assert_eq!(hole(&bytes(0, 36, 0), 0), Some(0));
@@ -178,6 +195,22 @@ mod tests {
         // The zeros of a name are no hole, and those behind them may be.
         let named = [bytes(14, 256, 3), bytes(2, 600, 1)].concat();
         assert_eq!(hole(&named, 0), Some(275));
+    }
+
+    #[test]
+    fn zeros_behind_a_wrong_field_are_no_hole() {
+        let hole = |input: &[u8], place| super::hole(input, WRONG_FIELD, place);
+        for zeros in [1, 511, 512, 5000] {
+            assert_eq!(hole(&bytes(100, zeros, 0), 100), Some(100));
+            assert_eq!(
+                hole(&bytes(100, zeros, 0), 110),
+                Some(100).filter(|_| zeros > 10)
+            );
+            assert_eq!(hole(&bytes(100, zeros, 0), 85), Some(100));
+            assert_eq!(hole(&bytes(100, zeros, 0), 84), None);
+        }
+        assert_eq!(hole(&bytes(100, 512, 9), 85), Some(100));
+        assert_eq!(hole(&bytes(100, 512, 9), 84), None);
     }
 
     #[test]

@@ -22,10 +22,12 @@ mod growing;
 mod growth;
 mod heading;
 mod identity;
+mod judged;
 mod layers;
 mod lines;
 mod list;
 mod name;
+mod named;
 mod number;
 mod output;
 mod palette;
@@ -68,7 +70,7 @@ it is refused, differs or lacks what was asked for, 2 for wrong use or a file th
 written.
 ";
 
-const VERSION: &str = "0.3.0";
+const VERSION: &str = "0.4.0";
 
 struct Command {
     help: &'static str,

@@ -18,10 +18,12 @@ mod fields;
 mod growth;
 mod heading;
 mod identity;
+mod judged;
 mod lines;
 #[cfg(test)]
 mod mutated;
 mod name;
+mod named;
 mod number;
 mod shape;
 mod table;

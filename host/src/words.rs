@@ -1,4 +1,4 @@
-//! Words of sentences that count.
+//! Words of sentences that count, and numbers in them.
 
 /// So many of what has a plural in s.
 pub fn counted(count: usize, what: &str) -> String {
@@ -6,6 +6,20 @@ pub fn counted(count: usize, what: &str) -> String {
         1 => format!("1 {}", what),
         _ => format!("{} {}s", count, what),
     }
+}
+
+/// A number with a comma before each three digits, as the documents write their limits.
+pub fn grouped(number: impl Into<i64>) -> String {
+    let number = number.into();
+    let digits = number.unsigned_abs().to_string();
+    let mut grouped = if number < 0 { "-" } else { "" }.to_string();
+    for (at, digit) in digits.chars().enumerate() {
+        if at > 0 && (digits.len() - at) % 3 == 0 {
+            grouped.push(',');
+        }
+        grouped.push(digit);
+    }
+    grouped
 }
 
 #[cfg(test)]
@@ -16,5 +30,17 @@ mod tests {
     fn one_has_no_plural() {
         assert_eq!(counted(1, "row"), "1 row");
         assert_eq!(counted(0, "row"), "0 rows");
+    }
+
+    #[test]
+    fn digits_stand_in_threes() {
+        for (number, text) in [
+            (0, "0"),
+            (999, "999"),
+            (4_096, "4,096"),
+            (16_777_216, "16,777,216"),
+        ] {
+            assert_eq!(grouped(number), text);
+        }
     }
 }

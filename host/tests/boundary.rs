@@ -88,8 +88,8 @@ fn a_plane_length_gives_the_row() {
     };
     assert_eq!(of(&grey()), (0, 521, 4, 4));
     assert_eq!(of(&grey_with(&[9])), (0, 518, 1, 1));
-    assert_eq!(of(&grey_with(&[9, 0])), (8, 505, 0, 0));
-    assert_eq!(of(&grey_with(&[9; 5])), (8, 505, 0, 0));
+    assert_eq!(of(&grey_with(&[9, 0])), (8, 509, 0, 0));
+    assert_eq!(of(&grey_with(&[9; 5])), (8, 509, 0, 0));
 }
 
 #[test]
@@ -223,7 +223,7 @@ fn slices_may_be_empty() {
 #[test]
 fn the_library_is_the_header_s_and_the_crate_s() {
     assert_eq!(numbers::version(), psp::ffi::VERSION);
-    assert_eq!(psp::version().to_string(), "0.3.0");
+    assert_eq!(psp::version().to_string(), "0.4.0");
     // Where cargo builds this, its own manifest has the version too.
     if let Some(version) = option_env!("CARGO_PKG_VERSION") {
         assert_eq!(psp::version().to_string(), version);
@@ -244,6 +244,24 @@ fn a_listing_is_its_count_or_its_refusal() {
         count: 1,
     };
     assert_eq!(psp::count(&file, 1), Err(full));
+}
+
+#[test]
+fn a_wrong_field_is_refused_at_its_place() {
+    // Of the image, the layer and the channel; and a byte of each that cannot be FF.
+    let places = [
+        50, 54, 66, 67, 69, 71, 73, 77, 86, 372, 373, 389, 410, 426, 445, 487, 489, 509, 513, 515,
+    ];
+    let bytes = [
+        53, 57, 66, 68, 70, 72, 76, 77, 87, 372, 384, 400, 421, 437, 446, 488, 490, 512, 514, 516,
+    ];
+    for (place, at) in places.into_iter().zip(bytes) {
+        let mut file = grey();
+        file[at] = 0xFF;
+        let refused = psp::count(&file, usize::MAX).expect_err("a wrong field");
+        let found = (refused.refusal, refused.place);
+        assert_eq!(found, (Refusal::WrongField, place));
+    }
 }
 
 #[test]

@@ -42,6 +42,8 @@ while [ $run -lt 300 ]; do
   "$psp" list fuzz.psp > listed 2> said
   listing=$?
   ends_well "fuzz $run: list" $listing
+  # Of each wrong field the entries before it tell which it is.
+  ! grep -q 'a field here' said || bad "fuzz $run: a field without a name"
   "$reference" list < fuzz.psp > expected
   cmp -s listed expected || bad "fuzz $run: the listing is not the independent one's"
   case $((run % 6)) in

@@ -1,5 +1,6 @@
 /* The header against the archive, in C and in C++: header FILE, document 01's file of 521 bytes. Their versions agree, their entries too,
- * and every function takes a null pointer where the length is 0: its answer is the one that a buffer of length 0 gets. */
+ * a wrong field has its own place, and every function takes a null pointer where the length is 0: its answer is the one that a buffer of
+ * length 0 gets. */
 #include <psp.h>
 #include <stdio.h>
 #include <string.h>
@@ -52,6 +53,16 @@ static void entries(const uint8_t *file, size_t length) {
   hold(is_listed(psp_list_records(file, length, table, NUMBERS, records, ROOM), PSP_ACCEPTED, length, ROOM), "psp_entry: the listing");
   hold(sizeof records == sizeof table && memcmp(records, table, sizeof table) == 0, "psp_entry: the numbers of the table");
   hold(records[2].row == 0 && records[3].plane == 4 && records[3].row == 4, "psp_entry: plane length and row");
+}
+
+/* The place of 8 is that of the field: here the layer count, and the first corner of the saved image rectangle. */
+static void wrong_fields(const uint8_t *file, size_t length) {
+  uint8_t wrong[521];
+  memcpy(wrong, file, length);
+  wrong[397] = 2;
+  hold(is_listed(psp_count(wrong, length, SIZE_MAX), PSP_WRONG_FIELD, 389, 2), "psp_listed: a wrong rectangle");
+  wrong[86] = 0;
+  hold(is_listed(psp_count(wrong, length, SIZE_MAX), PSP_WRONG_FIELD, 86, 0), "psp_listed: a wrong field");
 }
 
 static void planes(const uint8_t *file, size_t length) {
@@ -124,6 +135,7 @@ int main(int argc, char **argv) {
   hold(psp_count(file, sizeof file, SIZE_MAX).number == PSP_ACCEPTED, "the file is accepted");
   listings(file, sizeof file);
   entries(file, sizeof file);
+  wrong_fields(file, sizeof file);
   planes(file, sizeof file);
   canvases();
   views(file, sizeof file);

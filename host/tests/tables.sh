@@ -17,6 +17,8 @@ cp accents.psp all/accents.PSP
 cp accents-utf8.csv all/accents.csv
 cp cut.psp all/refused.psp
 cp true.csv all/refused.csv
+cp field-saved.psp all/wrong.psp
+cp true.csv all/wrong.csv
 cp mug.psp 'all/no "table" .psp'
 cp true.csv all/stray.csv
 mkdir all/folder.psp

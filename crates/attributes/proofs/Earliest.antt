@@ -1,13 +1,13 @@
--- The earliest bad field of any rule: a chunk without one keeps every field, and the place of one is the first in file order.
+-- The earliest bad field of any rule: a chunk without one keeps every field, and the place of one is that of the first that is judged.
 use mathlib.Core.Path.{_≡_, refl, sym, ap₂, _∙_}
-use mathlib.Core.Bool.{Bool, true, false, _&&_}
+use mathlib.Core.Bool.{Bool, true, false}
 use mathlib.Core.List.{List, [], _∷_}
 use Prim.Native.Nat.{ℕ}
 use native.Mathlib.Omega.{arith}
-use lib.Dec.{ltb}
+use Rattle.laws.proofs.Tests.{never}
 use Rattle.attributes.specs.declared.fault.Fault.{Fault}
 use Rattle.attributes.specs.declared.fault.Fault.the-variants.{None, At}
-use Rattle.attributes.specs.Fault.{unlessOf, Field, from, earliest}
+use Rattle.attributes.specs.Fault.{unlessOf, Field, from, earliest, First, here, behind}
 
 -- one field more: of equal faults so far and equal tests
 pub next : (offset : ℕ) {f f' : Fault} {p p' : Bool} → f ≡ f' → p ≡ p' → unlessOf f p offset ≡ unlessOf f' p' offset
@@ -38,25 +38,23 @@ kept (x ∷ xs) h =
     let k = keeps (x .permitted) (x .offset) xs h in
     (k .0, kept xs (k .1))
 
--- p is the offset of the first field that is not permitted
-pub data First (p : ℕ) : List Field → Type 0 where
-  bad : {x : Field} {xs : List Field} → x .permitted ≡ false → x .offset ≡ p → First p (x ∷ xs)
-  good : {x : Field} {xs : List Field} → x .permitted ≡ true → First p xs → First p (x ∷ xs)
+-- ### The first that is not permitted
 
-placed : (p : ℕ) (x : Field) (xs : List Field) (b : Bool) → x .permitted ≡ b → (earliest xs ≡ At p → First p xs) → from (unlessOf None b (x .offset)) xs ≡ At p → First p (x ∷ xs)
+-- of any size
+found : (offset : ℕ) (x : Field) (xs : List Field) (b : Bool) → x .permitted ≡ b → (earliest xs ≡ At offset → (n : ℕ) × First offset n xs)
+    → from (unlessOf None b (x .offset)) xs ≡ At offset → (n : ℕ) × First offset n (x ∷ xs)
 unfolding unlessOf
-placed p x xs true e rest h = good e (rest h)
-placed p x xs false e rest h = bad e (same (sym (stays (x .offset) xs) ∙ h))
+found offset x xs true e rest h = let r = rest h in (r .0, behind e (r .1))
+found offset x xs false e rest h = (x .size, here (same (sym (stays (x .offset) xs) ∙ h)) refl e)
   where
-    same : {q : ℕ} → At q ≡ At p → q ≡ p
+    same : {q : ℕ} → At q ≡ At offset → q ≡ offset
     same e = cc
 
-pub first : (p : ℕ) (xs : List Field) → earliest xs ≡ At p → First p xs
-first p [] h = absurd (at≢none (sym h))
-first p (x ∷ xs) h = placed p x xs (x .permitted) refl (first p xs) h
+pub first : (offset : ℕ) (xs : List Field) → earliest xs ≡ At offset → (n : ℕ) × First offset n xs
+first offset [] h = absurd (at≢none (sym h))
+first offset (x ∷ xs) h = found offset x xs (x .permitted) refl (first offset xs) h
 
--- the fields stand in file order
-abbrev pub inOrder : List Field → Bool
-inOrder [] = true
-inOrder (x ∷ []) = true
-inOrder (x ∷ (y ∷ xs)) = ltb (x .offset) (y .offset) && inOrder (y ∷ xs)
+-- a rule without a fault names none
+pub named-none : {offset size : ℕ} {xs : List Field} → First offset size xs → Kept xs → ⊥
+named-none (here o n e) k = never (sym e ∙ k .0)
+named-none (behind e f) k = named-none f (k .1)

@@ -48,16 +48,20 @@ isPaletted c = ltb (c .depth) 24 && eqb (c .grey) 0
 
 abbrev pub imageFields : ImageChunk → List Field
 imageFields c =
-    field 0 (isSide (c .width))
-    ∷ field 4 (isSide (c .height))
-    ∷ field 16 (isResolution (c .resolution))
-    ∷ field 17 (leb (c .compression) 2)
-    ∷ field 19 (isDepth (c .depth))
-    ∷ field 21 (eqb (c .planes) 1)
-    ∷ field 23 (eqb (c .colours) (2 ^ c .depth))
-    ∷ field 27 (eqb (c .grey) 0 || (eqb (c .grey) 1 && eqb (c .depth) 8))
-    ∷ field 36 (leb 1 (c .layers) && leb (c .layers) layerLimit && (not (isPaletted c) || eqb (c .layers) 1))
+    field 0 4 (isSide (c .width))
+    ∷ field 4 4 (isSide (c .height))
+    ∷ field 16 1 (isResolution (c .resolution))
+    ∷ field 17 2 (leb (c .compression) 2)
+    ∷ field 19 2 (isDepth (c .depth))
+    ∷ field 21 2 (eqb (c .planes) 1)
+    ∷ field 23 4 (eqb (c .colours) (2 ^ c .depth))
+    ∷ field 27 1 (eqb (c .grey) 0 || (eqb (c .grey) 1 && eqb (c .depth) 8))
+    ∷ field 36 2 (leb 1 (c .layers) && leb (c .layers) layerLimit && (not (isPaletted c) || eqb (c .layers) 1))
     ∷ []
 
 unfoldable pub imageFault : ImageChunk → Fault
 imageFault c = earliest (imageFields c)
+
+-- the rule, by the chunk's bytes
+abbrev pub imageRule : List ℕ → List Field
+imageRule chunk = imageFields (imageOf chunk)

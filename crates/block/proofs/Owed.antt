@@ -27,7 +27,7 @@ use Rattle.kinds.specs.Blocks.{imageJudged, paletteJudged, paletteCounted, imag
 use Rattle.layers.specs.Layers.{layerJudged, channelJudged, channelSized, channelCoded, layerBlock, channelBlock}
 use Rattle.kinds.proofs.Judging.{permitted-ind, permitted-ind₂}
 use Rattle.block.specs.Step.{kindOf, placedOf, blockAt, stepAt}
-use Rattle.block.proofs.Stepped.{LeafOf, an-image, a-palette, a-channel, a-skip, NestOf, a-bank, a-layer, Stepped, accepted, ended, stopped, leafed, nested, stepped}
+use Rattle.block.proofs.Stepped.{LeafOf, an-image, a-palette, a-channel, a-skip, NestOf, a-bank, a-layer, Stepped, accepted, ended, stopped, named, leafed, nested, stepped}
 
 -- ### Each step moves on
 
@@ -71,7 +71,8 @@ module _ (s : List ℕ) (st : State) (at end levels : ℕ) where
   moved : {k : Step State} → Stepped s st at end levels k → Moves (length s) main at end levels k
   moved (accepted top here all) = ends (record { inside = λ z. absurd (omega arith); whole = λ _. here })
   moved (ended inner here all) = ends (record { inside = λ _. here; whole = λ z. absurd (inner z) })
-  moved (stopped h) = stops h
+  moved (stopped h other) = stops h
+  moved (named {offset} f) = let low : at ≤ at + blockHeaderSize + offset = omega arith in stops low
   moved (leafed h l) = leaf (leaf-owns l)
   moved (nested h n) = nest (nest-opens n)
 
@@ -86,25 +87,25 @@ module _ (len levels : ℕ) (s : List ℕ) (st : State) (at level : ℕ) where
   B = Beyond len main levels
 
   image-past : len < at + imageHead → (chunk : _) → B (imageJudged st at level chunk)
-  image-past far c = permitted-ind B _ _ _ (λ _. refused) (λ _. pick-ind B _ _ _ (λ _. refused) (λ _. leaf-past far))
+  image-past far c = permitted-ind B _ _ _ (λ _ _. refused) (λ _. pick-ind B _ _ _ (λ _. refused) (λ _. leaf-past far))
 
   palette-past : len < at + paletteHead → (total : ℕ) (chunk : _) → B (paletteJudged s st total at level chunk)
   unfolding paletteCounted
   palette-past far total c =
       let past : len < at + paletteHead + 4 * c .count = omega arith in
-      permitted-ind B _ _ _ (λ _. refused) (λ _.
+      permitted-ind B _ _ _ (λ _ _. refused) (λ _.
       pick-ind B _ _ _ (λ _. unit-ind B s (at + paletteHead) (4 * c .count) _ (λ _. refused) (λ _. leaf-past past)) (λ _. refused))
 
   layer-past : len < at + layerHead → (total : ℕ) (chunk : _) → B (layerJudged st total at level chunk)
-  layer-past far total c = permitted-ind B _ _ _ (λ _. refused) (λ _. nest-past far)
+  layer-past far total c = permitted-ind B _ _ _ (λ _ _. refused) (λ _. nest-past far)
 
   channel-past : len < at + channelHead → (total : ℕ) (chunk : _) → B (channelJudged s st total at level chunk)
   unfolding channelCoded channelSized
   channel-past far total c =
       let past : len < at + channelHead + c .stored = omega arith in
       pick-ind B _ _ _
-      (λ _. permitted-ind B _ _ _ (λ _. refused) (λ _. pick-ind B _ _ _
-      (λ _. permitted-ind B _ _ _ (λ _. refused) (λ _. unit-ind B s (at + channelHead) (c .stored) _ (λ _. refused) (λ _. leaf-past past)))
+      (λ _. permitted-ind B _ _ _ (λ _ _. refused) (λ _. pick-ind B _ _ _
+      (λ _. permitted-ind B _ _ _ (λ _ _. refused) (λ _. unit-ind B s (at + channelHead) (c .stored) _ (λ _. refused) (λ _. leaf-past past)))
       (λ _. refused)))
       (λ _. refused)
 

@@ -1,4 +1,4 @@
--- Laws of chunks: the order of the fields that are judged, and what a chunk without a bad field satisfies.
+-- Laws of chunks: the field that is named, and what a chunk without a bad field satisfies.
 pub mod Order
 pub mod Rules
 pub mod OneOutcome

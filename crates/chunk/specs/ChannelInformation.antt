@@ -28,14 +28,21 @@ channelAt s at = channelOf (part s at channelSize)
 
 -- the codes come before the plane length
 abbrev pub codesFields : ChannelChunk → List Field
-codesFields c = field 8 (leb (c .bitmap) 5) ∷ field 10 (leb (c .channel) 3) ∷ []
+codesFields c = field 8 2 (leb (c .bitmap) 5) ∷ field 10 2 (leb (c .channel) 3) ∷ []
 
 unfoldable pub codesFault : ChannelChunk → Fault
 codesFault c = earliest (codesFields c)
 
 -- for planes of this shape
 abbrev pub planeFields : Shape → ChannelChunk → List Field
-planeFields shape c = field 4 (isPlane shape (c .plane)) ∷ []
+planeFields shape c = field 4 4 (isPlane shape (c .plane)) ∷ []
 
 unfoldable pub planeFault : Shape → ChannelChunk → Fault
 planeFault shape c = earliest (planeFields shape c)
+
+-- the two rules, by the chunk's bytes
+abbrev pub codesRule : List ℕ → List Field
+codesRule chunk = codesFields (channelOf chunk)
+
+abbrev pub planeRule : Shape → List ℕ → List Field
+planeRule shape chunk = planeFields shape (channelOf chunk)

@@ -22,7 +22,11 @@ paletteAt s at = paletteOf (part s at paletteSize)
 
 -- 1 to 2 to the depth
 abbrev pub paletteFields : ℕ → PaletteChunk → List Field
-paletteFields depth c = field 0 (leb 1 (c .count) && leb (c .count) (2 ^ depth)) ∷ []
+paletteFields depth c = field 0 4 (leb 1 (c .count) && leb (c .count) (2 ^ depth)) ∷ []
 
 unfoldable pub paletteFault : ℕ → PaletteChunk → Fault
 paletteFault depth c = earliest (paletteFields depth c)
+
+-- the rule, by the chunk's bytes
+abbrev pub paletteRule : ℕ → List ℕ → List Field
+paletteRule depth chunk = paletteFields depth (paletteOf chunk)

@@ -47,15 +47,19 @@ layerAt s at = layerOf (part s at layerSize)
 -- in an image of this depth; channels are c + b - 1
 abbrev pub layerFields : ℕ → LayerChunk → List Field
 layerFields depth c =
-    field 256 (leb (c .kind) 1)
-    ∷ field 257 (isProper (c .image .border))
-    ∷ field 273 (isSaved (c .image .saved) (c .image .border))
-    ∷ field 294 (isProper (c .mask .border))
-    ∷ field 310 (isSaved (c .mask .saved) (c .mask .border))
-    ∷ field 329 (leb (c .blends) 5)
-    ∷ field 371 (leb 1 (c .bitmaps) && leb (c .bitmaps) 3)
-    ∷ field 373 (eqb (c .channels + 1) (colourChannels depth + c .bitmaps))
+    field 256 1 (leb (c .kind) 1)
+    ∷ field 257 16 (isProper (c .image .border))
+    ∷ field 273 16 (isSaved (c .image .saved) (c .image .border))
+    ∷ field 294 16 (isProper (c .mask .border))
+    ∷ field 310 16 (isSaved (c .mask .saved) (c .mask .border))
+    ∷ field 329 2 (leb (c .blends) 5)
+    ∷ field 371 2 (leb 1 (c .bitmaps) && leb (c .bitmaps) 3)
+    ∷ field 373 2 (eqb (c .channels + 1) (colourChannels depth + c .bitmaps))
     ∷ []
 
 unfoldable pub layerFault : ℕ → LayerChunk → Fault
 layerFault depth c = earliest (layerFields depth c)
+
+-- the rule, by the chunk's bytes
+abbrev pub layerRule : ℕ → List ℕ → List Field
+layerRule depth chunk = layerFields depth (layerOf chunk)

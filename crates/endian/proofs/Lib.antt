@@ -1,5 +1,7 @@
--- Laws of numbers in bytes: by width, by sign, and by the bits of a double.
+-- Laws of numbers in bytes: by width, by sign, by the bits of a double; of lists that begin alike, and of bytes written over others.
 pub mod Width
 pub mod Signed
 pub mod Double
+pub mod Front
+pub mod Bytes
 pub mod OneOutcome

@@ -8,10 +8,10 @@ use Rattle.memory.specs.declared.state.State.{State}
 use Rattle.kinds.specs.Blocks.{wrongField, permitted}
 
 -- what holds of every fault's answer, and of the rest where there is no fault, holds of the judgement
-pub permitted-ind : (P : Step State → Type 0) (f : Fault) (chunk : ℕ) (rest : Step State) → ((offset : ℕ) → P (wrongField chunk offset)) → (f ≡ None → P rest) → P (permitted f chunk rest)
+pub permitted-ind : (P : Step State → Type 0) (f : Fault) (chunk : ℕ) (rest : Step State) → ((offset : ℕ) → f ≡ At offset → P (wrongField chunk offset)) → (f ≡ None → P rest) → P (permitted f chunk rest)
 unfolding permitted
 permitted-ind P None chunk rest bad good = good refl
-permitted-ind P (At offset) chunk rest bad good = bad offset
+permitted-ind P (At offset) chunk rest bad good = bad offset refl
 
 -- a relation between two answers
 pub permitted-ind₂ :

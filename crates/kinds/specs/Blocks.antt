@@ -39,9 +39,9 @@ told (code.Nest e inside st after) = Nest e inside st after
 abbrev pub unless : Bool → Judged → Judged → Judged
 unless test refusal rest = pick test rest refusal
 
--- a fault becomes an answer: 8 at the chunk's start
+-- a fault becomes an answer: 8 at the field (document 02, request vi)
 abbrev pub wrongField : ℕ → ℕ → Judged
-wrongField chunk offset = Stop WrongField chunk
+wrongField chunk offset = Stop WrongField (chunk + offset)
 
 -- unless every field is permitted
 unfoldable pub permitted : Fault → ℕ → Judged → Judged

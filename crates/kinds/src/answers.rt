@@ -7,7 +7,8 @@ use entry::Content;
 use entry::Entry;
 use rect::Size;
 ghost use mathlib.Core.Path.{_≡_};
-ghost use Prim.Native.Nat.{_+_, _<_, _^_};
+ghost use Prim.Native.Nat.{_+_, _≤_, _<_, _^_};
+ghost use Rattle.limits.specs.Limits.{inputLimit};
 ghost use Rattle.entry.specs.Entry.{block, content, ranked, filled};
 ghost use Rattle.kinds.specs.Blocks.{told, wrongField};
 
@@ -61,12 +62,13 @@ pub fn filled_entry(
     }
 }
 
-// A field at an offset of a chunk is not permitted.
+// A field at an offset of a chunk is not permitted: the place is the field's.
 pub fn wrong_field(chunk: usize, offset: u32) -> Step
+    requires { ⌜ chunk ≤ inputLimit ⌝ }
     ensures { λ r. ⌜ told r ≡ wrongField chunk offset ⌝ }
 {
     Step::Stop {
         refusal: Refusal::WrongField,
-        place: chunk,
+        place: chunk + offset as usize,
     }
 }

@@ -54,15 +54,12 @@ use Rattle.kinds.specs.Blocks.{skippedBy}
 use Rattle.layers.specs.Layers.{channelEntry, isAwaited}
 use Rattle.block.specs.Step.{stepAt}
 use Rattle.block.proofs.Stepped.{IsPalette, IsSkip, an-image, a-palette, a-channel, a-skip, a-bank, a-layer, Stepped, accepted, ended, leafed, nested, stepped}
-use Rattle.listing.specs.Right.{isKind, isPalette, isBank, isLayer, isChannel, layersIn, codesIn, imageIn, depthOf, layerFrom, Awaited, Full, ImageRight, savedOf, bitsOf, shortOf, Right}
+use Rattle.listing.specs.Right.{isKind, isPalette, isBank, isLayer, isChannel, layersIn, codesIn, imageIn, depthOf, layerFrom, Awaited, Full, ImageRight, shapeIn, Right}
 use Rattle.listing.proofs.CodesRemembered.{Came, came-none, came-more, came-once, came-coloured, expected-ind}
 
 -- ### Shapes
 
--- the shape of a bitmap's planes in a layer, and that the rules compute this one of what they remember
-abbrev shapeIn : LayerChunk → ℕ → ℕ → Shape
-shapeIn c depth bitmap = shapeOf (sidesOf (savedOf c bitmap)) (bitsOf depth bitmap) (shortOf depth bitmap)
-
+-- of what they remember the rules compute the shape of a bitmap's planes in its layer
 shape-right :
     (depth : ℕ) → isDepth depth ≡ true → (c : LayerChunk) (l : Current) → l .image ≡ sidesOf (c .image .saved) → l .mask ≡ sidesOf (c .mask .saved)
     → (b k : ℕ) → isExpected depth b k ≡ true → shapeFor l depth b ≡ shapeIn c depth b
@@ -161,13 +158,13 @@ module _ (s : List ℕ) where
     begun : {levels at : ℕ} {es : List Entry} {st : State} → Underway levels es st → CameTo levels at es st
 
   module _ {levels : ℕ} {es : List Entry} {st : State} (u : Underway levels es st) where
-    depth-is : st .image .depth ≡ depthOf s
+    pub depth-is : st .image .depth ≡ depthOf s
     depth-is = ap (λ (a : Announced). a .depth) (u .known .announced)
 
-    depth-good : isDepth (depthOf s) ≡ true
+    pub depth-good : isDepth (depthOf s) ≡ true
     depth-good = image-rules (imageIn s) (u .known .image .permitted) .depth
 
-    not-first : st .image .depth ≡ 0 → ⊥
+    pub not-first : st .image .depth ≡ 0 → ⊥
     not-first e =
         four (λ (d : ℕ). d ≡ 0 → ⊥) (λ z. absurd (omega arith)) (λ z. absurd (omega arith)) (λ z. absurd (omega arith)) (λ z. absurd (omega arith))
         (depthOf s) depth-good (sym depth-is ∙ e)
@@ -488,7 +485,7 @@ module _ (s : List ℕ) where
         subst (λ (d : ℕ). isExpected d (c .bitmap) (c .channel) ≡ true) (depth-is u)
         (both (isExpected (st .image .depth) (c .bitmap) (c .channel)) _ waited .0)
 
-    awaited : Awaited (depthOf s) (codesIn (its-layer .channels)) (code (c .bitmap) (c .channel))
+    pub awaited : Awaited (depthOf s) (codesIn (its-layer .channels)) (code (c .bitmap) (c .channel))
     awaited = record {
       expected = expected;
       once =
@@ -526,7 +523,7 @@ module _ (s : List ℕ) where
               closed-more (Full s) 2 es channel-entry refl (u .closed) (record { bank = λ z. never z; layer = λ z. never z });
         }
 
-    shape-is : shape ≡ shapeIn (layerFrom s (its-layer .layer .block .place)) (depthOf s) (c .bitmap)
+    pub shape-is : shape ≡ shapeIn (layerFrom s (its-layer .layer .block .place)) (depthOf s) (c .bitmap)
     shape-is =
         ap (λ (d : ℕ). shapeFor (st .layer) d (c .bitmap)) (depth-is u)
         ∙ shape-right (depthOf s) (depth-good u) (layerFrom s (its-layer .layer .block .place)) (st .layer) (its-layer .image) (its-layer .mask) (c .bitmap) (c .channel) expected

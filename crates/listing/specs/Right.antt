@@ -11,7 +11,8 @@ use Rattle.laws.specs.All.{All}
 use Rattle.laws.specs.Along.{Along}
 use Rattle.rect.specs.declared.Rect.{Rect}
 use Rattle.rect.specs.Rect.{widthOf, heightOf}
-use Rattle.rect.specs.Rows.{shapeOf, Taken}
+use Rattle.rect.specs.declared.planes.Shape.{Shape}
+use Rattle.rect.specs.Rows.{sidesOf, shapeOf, Taken}
 use Rattle.entry.specs.declared.Code.{Code}
 use Rattle.entry.specs.declared.Entry.{Entry}
 use Rattle.entry.specs.Entry.{block, code, content, plain, ranked, filled}
@@ -124,8 +125,8 @@ pub record LayerRight (s : List ℕ) (before : List Entry) (e : Entry) : Type 0 
   pub permitted : layerFault (depthOf s) (layerFrom s (e .block .place)) ≡ None
   pub inside : e .block .place + layerHead ≤ length s
 
--- the rectangle of a bitmap's planes, their bits, and whether their rows may be short: the user mask has the saved mask rectangle; masks
--- have 8 bits, and may have short rows at any depth
+-- the rectangle of a bitmap's planes, their bits, and whether their rows may be short, which are their shape: the user mask has the saved
+-- mask rectangle; masks have 8 bits, and may have short rows at any depth
 abbrev pub savedOf : LayerChunk → ℕ → Rect
 savedOf c bitmap = pick (eqb bitmap 2) (c .mask .saved) (c .image .saved)
 
@@ -134,6 +135,9 @@ bitsOf depth bitmap = pick (eqb bitmap 0) (cond (ltb depth 24) depth 8) 8
 
 abbrev pub shortOf : ℕ → ℕ → Bool
 shortOf depth bitmap = pick (eqb bitmap 0) (colourShort depth) true
+
+abbrev pub shapeIn : LayerChunk → ℕ → ℕ → Shape
+shapeIn c depth bitmap = shapeOf (sidesOf (savedOf c bitmap)) (bitsOf depth bitmap) (shortOf depth bitmap)
 
 -- a channel's row, by the other numbers of its entry
 abbrev pub RowTaken : ℕ → Entry → Type 0

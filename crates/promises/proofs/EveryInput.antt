@@ -52,7 +52,7 @@ use Rattle.promises.specs.EveryInput.{Exact, header, blocks, ListsExactl
 -- ### A listing
 
 -- the file header's own answers are 0 to 4
-head-number : (s : List ℕ) → answerNumber (headOf s .answer) ≤ 4
+pub head-number : (s : List ℕ) → answerNumber (headOf s .answer) ≤ 4
 unfolding headOf
 head-number s =
     let N : answer.Outcome → Type 0 = λ h. answerNumber (h .answer) ≤ 4 in
@@ -61,7 +61,7 @@ head-number s =
     pick-ind N _ _ _ (λ _. pick-ind N _ _ _ (λ _. omega arith) (λ _. omega arith)) (λ _. omega arith)))
 
 module _ (s : List ℕ) (room : ℕ) where
-  listed-exact : Exact s room (listed s room)
+  pub listed-exact : Exact s room (listed s room)
   listed-exact =
       yes-or-no (isAccepted (headOf s .answer))
       (λ good. subst (λ (w : Listing State). Exact s room (cut room w)) (sym (behind-head s good))

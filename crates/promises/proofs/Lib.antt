@@ -2,3 +2,4 @@
 pub mod EveryInput
 pub mod TableAndPlanes
 pub mod MoreInput
+pub mod WhichField

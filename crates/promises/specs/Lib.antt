@@ -1,4 +1,5 @@
--- The mission's three demands, over the definitions that the contracts of the library are stated by.
+-- The mission's three demands, over the definitions that the contracts of the library are stated by; and which field answer 8 names.
 pub mod EveryInput
 pub mod TableAndPlanes
 pub mod MoreInput
+pub mod WhichField

@@ -2,8 +2,8 @@
 
 use std::os::raw::c_double;
 
-/// PSP_VERSION: 0.3.0, as major times 10,000, minor times 100, patch.
-pub const VERSION: u32 = 300;
+/// PSP_VERSION: 0.4.0, as major times 10,000, minor times 100, patch.
+pub const VERSION: u32 = 400;
 
 // Every function: all is well.
 pub const ACCEPTED: u32 = 0;
@@ -87,7 +87,7 @@ pub struct Entry {
     pub row: u32,
 }
 
-/// The answer of a listing.
+/// The answer of a listing; the place of 8 is that of the field.
 #[repr(C)]
 #[derive(Clone, Copy, Debug, PartialEq, Eq)]
 pub struct Listed {

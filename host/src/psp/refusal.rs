@@ -78,8 +78,9 @@ refusals! {
     NoLayer, NO_LAYER, "k is past the last layer";
 }
 
-/// A listing that was refused: why, at which place of the input, and how many entries were found
-/// before it. They stand in front of the lent table, and of the lent records.
+/// A listing that was refused: why, at which place of the input (a wrong field at its first byte),
+/// and how many entries were found before it. They stand in front of the lent table, and of the lent
+/// records.
 #[derive(Clone, Copy, Debug, PartialEq, Eq)]
 pub struct RefusedListing {
     pub refusal: Refusal,

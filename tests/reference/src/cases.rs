@@ -11,6 +11,7 @@ mod fields;
 pub mod forms;
 pub mod known;
 pub mod many;
+pub mod named;
 mod packing;
 mod pictures;
 mod planes;
@@ -18,7 +19,7 @@ mod products;
 mod rectangles;
 pub mod rows;
 mod streams;
-mod sweeps;
+pub mod sweeps;
 mod values;
 
 use std::collections::HashSet;
@@ -45,6 +46,7 @@ pub fn systematic() -> Vec<Case> {
     known::all(&mut cases);
     rows::all(&mut cases);
     forms::all(&mut cases);
+    named::all(&mut cases);
     beginnings::all(&mut cases);
     channels::all(&mut cases);
     streams::all(&mut cases);

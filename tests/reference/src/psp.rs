@@ -1,6 +1,6 @@
-//! Document 01 with request (i) of document 02, written from their text: the
-//! listing of a Paint Shop Pro 3.0 file, the plane reader, the packer, the
-//! canvas and the views.
+//! Document 01 with requests (i) and (vi) of document 02, written from their
+//! text: the listing of a Paint Shop Pro 3.0 file, the plane reader, the packer,
+//! the canvas and the views.
 //!
 //! Nothing here aims at speed or at a small memory. Every function returns an
 //! answer for every input; sums that a file can make large are done in 64 bits.

@@ -5,10 +5,12 @@ mod forms;
 mod generator;
 mod known;
 mod listing;
+mod named;
 mod planes;
 mod views;
 mod worked;
 
+use crate::cases;
 use crate::psp::listing::list;
 use crate::psp::planes::{read_packets, PlaneAnswer};
 
@@ -24,7 +26,9 @@ pub fn report() -> bool {
     planes::all(&mut checks);
     forms::all(&mut checks);
     views::all(&mut checks);
-    generator::all(&mut checks);
+    let compared = cases::systematic();
+    named::all(&mut checks, &compared);
+    generator::all(&mut checks, &compared);
     for name in &checks.failed {
         println!("failed: {}", name);
     }

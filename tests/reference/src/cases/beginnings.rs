@@ -1,11 +1,13 @@
 //! Every beginning of files that `sweeps` does not have: a palette with both
-//! masks, with ample room and with a table that fills up on the way, and a
-//! layer that has a channel twice. More input never takes anything back, and
-//! the checks of this program hold the reference to that on each of them.
+//! masks, with ample room and with a table that fills up on the way, a layer
+//! that has a channel twice, and files with wrong fields. More input never takes
+//! anything back, and the checks of this program hold the reference to that on
+//! each of them.
 
 use crate::case::{Case, ROOM_LIMIT};
 use crate::psp::rectangle::Rectangle;
-use crate::write::{Image, InBank, Layer, Picture};
+use crate::samples;
+use crate::write::{Image, InBank, InLayer, Layer, Picture};
 
 pub fn all(cases: &mut Vec<Case>) {
     for (room, whole) in files() {
@@ -19,12 +21,41 @@ pub fn all(cases: &mut Vec<Case>) {
 }
 
 /// Files, each with a room.
-pub fn files() -> [(u32, Vec<u8>); 3] {
+pub fn files() -> [(u32, Vec<u8>); 6] {
+    let [image, layer, channel] = wrong_fields();
     [
         (ROOM_LIMIT, masks().bytes()),
         (3, masks().bytes()),
         (ROOM_LIMIT, twice().bytes()),
+        (ROOM_LIMIT, image),
+        (ROOM_LIMIT, layer),
+        (ROOM_LIMIT, channel),
     ]
+}
+
+/// Two wrong fields in a chunk, and blocks behind it: the grey flag and the
+/// layer count of an image; the saved rectangle and the blend ranges of the
+/// second layer; codes and plane length of a layer's second channel.
+pub fn wrong_fields() -> [Vec<u8>; 3] {
+    let mut image = samples::grey521();
+    image.image.grey = 2;
+    image.image.layer_count = 65;
+    let layer = || Layer::new(Rectangle::new(0, 0, 5, 5)).with(0, 0, vec![0; 40]);
+    let mut wrong = layer();
+    wrong.image_saved = Rectangle::new(0, 0, 6, 5);
+    wrong.blend_count = 6;
+    let layers = vec![InBank::Layer(layer()), InBank::Layer(wrong)];
+    let layers = Picture::new(self::image(true))
+        .bank(layers)
+        .skipped(12, 0, Vec::new());
+    let mut channels = masks();
+    for layer in channels.layers_mut() {
+        if let Some(InLayer::Channel(channel)) = layer.inside.get_mut(1) {
+            channel.channel = 4;
+            channel.plane = Some(41);
+        }
+    }
+    [image, layers, channels].map(|picture| picture.bytes())
 }
 
 fn image(grey: bool) -> Image {

@@ -1,6 +1,6 @@
 //! Two faults in one block, so that the order of the checks shows.
 
-use super::fields::Field;
+use super::fields;
 use super::sweeps::listing;
 use crate::case::Case;
 use crate::write::{Node, Tree};
@@ -55,12 +55,8 @@ fn faults(id: u16) -> Vec<Fault> {
         Box::new(|node| node.total = Some(0xFFFF_FFFF)),
     ];
     for &(offset, size, value) in bad_fields(id) {
-        let field = Field {
-            offset,
-            size,
-            values: &[],
-        };
-        faults.push(Box::new(move |node| field.set(&mut node.data, value)));
+        let set = move |node: &mut Node| fields::set(&mut node.data, offset, size, value);
+        faults.push(Box::new(set));
     }
     faults
 }

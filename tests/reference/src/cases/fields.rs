@@ -9,17 +9,18 @@ pub struct Field {
 }
 
 impl Field {
-    /// Overwrites the field in bytes that begin with its header or chunk.
-    /// Bytes that are not there stay away.
     pub fn set(&self, bytes: &mut [u8], value: u64) {
-        let value = value.to_le_bytes();
-        for (to, from) in bytes
-            .iter_mut()
-            .skip(self.offset)
-            .zip(value.iter().take(self.size))
-        {
-            *to = *from;
-        }
+        set(bytes, self.offset, self.size, value);
+    }
+}
+
+/// Overwrites a field in bytes that begin with its header or chunk. Bytes that
+/// are not there stay away.
+pub fn set(bytes: &mut [u8], offset: usize, size: usize, value: u64) {
+    let value = value.to_le_bytes();
+    let field = bytes.iter_mut().skip(offset).take(size);
+    for (to, from) in field.zip(value) {
+        *to = from;
     }
 }
 

@@ -109,10 +109,11 @@ fn grid(files: &mut Vec<Known>) {
 
 /// A number at a place of the file of 521 bytes, its size, and the answer. The
 /// blocks have their headers at 36, 88, 102 and 491, and their chunks at 50,
-/// 116 and 505.
+/// 116 and 505. The image rectangles are (0,0)-(1,1) and stand at 373 and 389,
+/// those of the mask are empty and stand at 410 and 426.
 type Change = (&'static str, usize, usize, u32, (u32, u64, usize));
 
-const CHANGES: [Change; 25] = [
+const CHANGES: [Change; 18] = [
     ("signature", 0, 1, 112, (3, 0, 0)),
     ("version 3.1", 34, 2, 1, (4, 32, 0)),
     ("mark of the bank", 88, 1, 0, (5, 88, 1)),
@@ -127,21 +128,66 @@ const CHANGES: [Change; 25] = [
     ("layer without its channel", 112, 4, 375, (10, 491, 3)),
     ("two bitmaps, one there", 487, 4, 0x2_0002, (10, 521, 4)),
     ("two layers announced", 86, 2, 2, (10, 521, 4)),
-    ("width 0", 50, 4, 0, (8, 50, 0)),
     ("compression 2", 67, 2, 2, (11, 50, 0)),
-    ("compression 3", 67, 2, 3, (8, 50, 0)),
-    ("layer type 2", 372, 1, 2, (8, 116, 2)),
-    ("saved outside its border", 397, 4, 2, (8, 116, 2)),
-    ("bitmap 6", 513, 2, 6, (8, 505, 3)),
     ("bitmap 3", 513, 2, 3, (9, 491, 3)),
-    ("plane length 0", 509, 4, 0, (8, 505, 3)),
     ("plane length 1, no padding", 509, 4, 1, (0, 521, 4)),
-    ("plane length 3", 509, 4, 3, (8, 505, 3)),
-    ("plane length 5", 509, 4, 5, (8, 505, 3)),
+    ("empty mask outside its border", 438, 4, 5, (0, 521, 4)),
+];
+
+/// Those that answer 8 names, each where its field stands; a rectangle at its
+/// first corner, and of two fields that do not agree the later one.
+const NAMED: [Change; 35] = [
+    ("width 0", 50, 4, 0, (8, 50, 0)),
+    ("height 4,097", 54, 4, 4_097, (8, 54, 0)),
+    ("metric 3", 66, 1, 3, (8, 66, 0)),
+    ("metric 1 of resolution 0", 66, 1, 1, (8, 66, 0)),
+    ("metric 3 and compression 3", 66, 3, 0x303, (8, 66, 0)),
+    ("compression 3", 67, 2, 3, (8, 67, 0)),
+    ("depth 5", 69, 2, 5, (8, 69, 0)),
+    ("depth 5 and no planes", 69, 4, 5, (8, 69, 0)),
+    ("depth 4 of 256 colours", 69, 2, 4, (8, 73, 0)),
+    ("two planes", 71, 2, 2, (8, 71, 0)),
+    ("255 colours", 73, 4, 255, (8, 73, 0)),
+    ("grey 2", 77, 1, 2, (8, 77, 0)),
+    ("no layer", 86, 2, 0, (8, 86, 0)),
+    ("layer type 2", 372, 1, 2, (8, 372, 2)),
+    (
+        "left side of the border behind its right",
+        373,
+        4,
+        2,
+        (8, 373, 2),
+    ),
+    (
+        "lower side of the border far off",
+        385,
+        4,
+        32_768,
+        (8, 373, 2),
+    ),
+    ("border inside the saved one", 373, 4, 1, (8, 389, 2)),
+    ("left side of the saved one", 389, 4, u32::MAX, (8, 389, 2)),
+    ("upper side of the saved one", 393, 4, 2, (8, 389, 2)),
+    ("saved outside its border", 397, 4, 2, (8, 389, 2)),
+    ("lower side of the saved one", 401, 4, 5_000, (8, 389, 2)),
+    ("upper side of the mask", 414, 4, 1, (8, 410, 2)),
+    ("right side of the saved mask", 434, 4, 4_097, (8, 426, 2)),
+    ("six blend ranges", 445, 2, 6, (8, 445, 2)),
+    ("no bitmap", 487, 2, 0, (8, 487, 2)),
+    ("no bitmap and no channel", 487, 4, 0, (8, 487, 2)),
+    ("two bitmaps and one channel", 487, 2, 2, (8, 489, 2)),
+    ("two channels", 489, 2, 2, (8, 489, 2)),
+    ("bitmap 6", 513, 2, 6, (8, 513, 3)),
+    ("bitmap 6 and channel 4", 513, 4, 0x4_0006, (8, 513, 3)),
+    ("channel 4", 515, 2, 4, (8, 515, 3)),
+    ("bitmap 3 and channel 4", 513, 4, 0x4_0003, (8, 515, 3)),
+    ("plane length 0", 509, 4, 0, (8, 509, 3)),
+    ("plane length 3", 509, 4, 3, (8, 509, 3)),
+    ("plane length 5", 509, 4, 5, (8, 509, 3)),
 ];
 
 fn fields(files: &mut Vec<Known>) {
-    for (name, place, size, value, answer) in CHANGES {
+    for &(name, place, size, value, answer) in CHANGES.iter().chain(&NAMED) {
         let mut input = samples::grey521().bytes();
         input[place..place + size].copy_from_slice(&value.to_le_bytes()[..size]);
         files.push(Known {

@@ -1,5 +1,6 @@
 //! The file header, the block header and the information chunks: their sizes,
-//! their fields in file order, and which values are permitted.
+//! their fields in file order, which values are permitted, and where the first
+//! that is not stands.
 
 use super::rectangle::Rectangle;
 use super::{LAYER_LIMIT, SIDE_LIMIT};
@@ -60,6 +61,38 @@ impl<'a> Fields<'a> {
             right,
             bottom,
         }
+    }
+}
+
+/// The lengths of document 000's types.
+const BYTE: u64 = 1;
+const WORD: u64 = 2;
+const DWORD: u64 = 4;
+const LONG: u64 = 4;
+const DOUBLE: u64 = 8;
+const RECTANGLE: u64 = 16;
+
+/// Passes the fields of a chunk in file order and keeps where the first one
+/// stands that is not permitted. A rule about two fields is asked at the later
+/// one, so its fault is named there.
+#[derive(Default)]
+struct Passed {
+    at: u64,
+    wrong: Option<u64>,
+}
+
+impl Passed {
+    fn field(self, length: u64, is_permitted: bool) -> Passed {
+        let here = Some(self.at).filter(|_| !is_permitted);
+        Passed {
+            at: self.at + length,
+            wrong: self.wrong.or(here),
+        }
+    }
+
+    /// Bytes that are carried unjudged, or judged with a later field.
+    fn carried(self, length: u64) -> Passed {
+        self.field(length, true)
     }
 }
 
@@ -183,26 +216,33 @@ impl ImageChunk {
         }
     }
 
-    /// Answer 8's fields. Compression 2 is permitted here: it has a number
-    /// of its own (11), given only when every field is good.
-    pub fn is_permitted(&self) -> bool {
+    /// Where the first field that is not permitted stands (8). Compression 2 is
+    /// permitted here: it has a number of its own (11), given only when every
+    /// field is good.
+    pub fn wrong_field(&self) -> Option<u64> {
         let side = |length: i32| (1..=SIDE_LIMIT).contains(&i64::from(length));
         let colours = match self.depth {
-            1 => 2,
-            4 => 16,
-            8 => 256,
-            24 => 16_777_216,
-            _ => return false,
+            1 => Some(2),
+            4 => Some(16),
+            8 => Some(256),
+            24 => Some(16_777_216),
+            _ => None,
         };
-        side(self.width)
-            && side(self.height)
-            && self.resolution.is_permitted()
-            && self.compression <= 2
-            && self.planes == 1
-            && self.colours == colours
-            && (self.grey == 0 || (self.grey == 1 && self.depth == 8))
-            && (1..=LAYER_LIMIT).contains(&self.layer_count)
-            && (!self.is_paletted() || self.layer_count == 1)
+        let grey = self.grey == 0 || (self.grey == 1 && self.depth == 8);
+        let most_layers = if self.is_paletted() { 1 } else { LAYER_LIMIT };
+        Passed::default()
+            .field(LONG, side(self.width))
+            .field(LONG, side(self.height))
+            .carried(DOUBLE)
+            .field(BYTE, self.resolution.is_permitted())
+            .field(WORD, self.compression <= 2)
+            .field(WORD, colours.is_some())
+            .field(WORD, self.planes == 1)
+            .field(DWORD, colours == Some(self.colours))
+            .field(BYTE, grey)
+            .carried(DWORD + LONG)
+            .field(WORD, (1..=most_layers).contains(&self.layer_count))
+            .wrong
     }
 
     pub fn is_grey(&self) -> bool {
@@ -245,9 +285,10 @@ impl PaletteChunk {
         }
     }
 
-    /// 1 to 2 to the depth. Only asked below depth 24.
-    pub fn is_permitted(&self, depth: u16) -> bool {
-        self.count >= 1 && u64::from(self.count) <= 1u64 << depth.min(32)
+    /// The count, unless it is 1 to 2 to the depth. Only asked below depth 24.
+    pub fn wrong_field(&self, depth: u16) -> Option<u64> {
+        let count = self.count >= 1 && u64::from(self.count) <= 1u64 << depth.min(32);
+        Passed::default().field(DWORD, count).wrong
     }
 
     pub fn entries_length(&self) -> u64 {
@@ -304,18 +345,30 @@ impl LayerChunk {
         }
     }
 
-    pub fn is_permitted(&self, colour_channels: u16) -> bool {
-        let pair = |border: &Rectangle, saved: &Rectangle| {
-            border.is_permitted()
-                && saved.is_permitted_as_saved()
-                && (saved.is_empty() || saved.lies_inside(border))
+    /// Where the first field that is not permitted stands (8). A rectangle is
+    /// one field: whichever coordinate is wrong, its first corner is the place.
+    pub fn wrong_field(&self, colour_channels: u16) -> Option<u64> {
+        let saved = |saved: &Rectangle, border: &Rectangle| {
+            saved.is_permitted_as_saved() && (saved.is_empty() || saved.lies_inside(border))
         };
-        self.kind <= 1
-            && pair(&self.image_border, &self.image_saved)
-            && pair(&self.mask_border, &self.mask_saved)
-            && self.blend_count <= 5
-            && (1..=3).contains(&self.bitmaps)
-            && self.channels == colour_channels + self.bitmaps - 1
+        // 32 bits: a count of bitmaps may be as wrong as 65,535.
+        let colours_and_bitmaps = u32::from(colour_channels) + u32::from(self.bitmaps);
+        Passed::default()
+            .carried(self.name.len() as u64)
+            .field(BYTE, self.kind <= 1)
+            .field(RECTANGLE, self.image_border.is_permitted())
+            .field(RECTANGLE, saved(&self.image_saved, &self.image_border))
+            // Opacity, blending mode, two flags, link group.
+            .carried(5 * BYTE)
+            .field(RECTANGLE, self.mask_border.is_permitted())
+            .field(RECTANGLE, saved(&self.mask_saved, &self.mask_border))
+            // Three flags.
+            .carried(3 * BYTE)
+            .field(WORD, self.blend_count <= 5)
+            .carried(self.blend_ranges.len() as u64)
+            .field(WORD, (1..=3).contains(&self.bitmaps))
+            .field(WORD, u32::from(self.channels) + 1 == colours_and_bitmaps)
+            .wrong
     }
 
     /// Bytes of the name before the first zero, or all 256.
@@ -354,8 +407,16 @@ impl ChannelChunk {
         }
     }
 
-    /// The codes that document 000 gives a meaning somewhere.
-    pub fn codes_are_permitted(&self) -> bool {
-        self.bitmap <= 5 && self.channel <= 3
+    /// The plane length follows the stored length. It is judged last, and only
+    /// of an expected channel.
+    pub const PLANE_LENGTH_PLACE: u64 = DWORD;
+
+    /// Where the first code stands that document 000 gives no meaning anywhere.
+    pub fn wrong_code(&self) -> Option<u64> {
+        Passed::default()
+            .carried(DWORD + DWORD)
+            .field(WORD, self.bitmap <= 5)
+            .field(WORD, self.channel <= 3)
+            .wrong
     }
 }

@@ -116,6 +116,14 @@ fn refuse<T>(number: u32, place: u64) -> Result<T, Refusal> {
     Err(Refusal { number, place })
 }
 
+/// Answer 8 gives the place of the field, whose offset in its chunk this is.
+fn permit(chunk_start: u64, wrong_field: Option<u64>) -> Result<(), Refusal> {
+    match wrong_field {
+        Some(offset) => refuse(number::VALUE_NOT_PERMITTED, chunk_start + offset),
+        None => Ok(()),
+    }
+}
+
 /// What the place rules make of a block.
 #[derive(Clone, Copy, PartialEq, Eq)]
 enum Treatment {
@@ -358,9 +366,7 @@ impl<'a> Walk<'a> {
     fn image(&mut self, place: u64) -> Result<(), Refusal> {
         let chunk_start = place + BlockHeader::SIZE;
         let chunk = ImageChunk::decode(self.unit(chunk_start, ImageChunk::SIZE)?);
-        if !chunk.is_permitted() {
-            return refuse(number::VALUE_NOT_PERMITTED, chunk_start);
-        }
+        permit(chunk_start, chunk.wrong_field())?;
         if chunk.compression == 2 {
             return refuse(number::COMPRESSION_2, chunk_start);
         }
@@ -376,9 +382,8 @@ impl<'a> Walk<'a> {
     fn palette(&mut self, place: u64, total: u32) -> Result<(), Refusal> {
         let chunk_start = place + BlockHeader::SIZE;
         let chunk = PaletteChunk::decode(self.unit(chunk_start, PaletteChunk::SIZE)?);
-        if !chunk.is_permitted(self.image.unwrap_or_default().depth) {
-            return refuse(number::VALUE_NOT_PERMITTED, chunk_start);
-        }
+        let depth = self.image.unwrap_or_default().depth;
+        permit(chunk_start, chunk.wrong_field(depth))?;
         if u64::from(total) != PaletteChunk::SIZE + chunk.entries_length() {
             return refuse(number::LENGTH_DOES_NOT_FIT, place);
         }
@@ -411,9 +416,8 @@ impl<'a> Walk<'a> {
     fn open_layer(&mut self, place: u64, end: u64) -> Result<(), Refusal> {
         let chunk_start = place + BlockHeader::SIZE;
         let chunk = LayerChunk::decode(self.unit(chunk_start, LayerChunk::SIZE)?);
-        if !chunk.is_permitted(self.image.unwrap_or_default().colour_channels()) {
-            return refuse(number::VALUE_NOT_PERMITTED, chunk_start);
-        }
+        let colours = self.image.unwrap_or_default().colour_channels();
+        permit(chunk_start, chunk.wrong_field(colours))?;
         let number = self.bank.as_ref().map_or(0, |bank| bank.layers);
         let entry = Entry {
             id: u32::from(LAYER),
@@ -442,17 +446,16 @@ impl<'a> Walk<'a> {
         if u64::from(total) != ChannelChunk::SIZE + stored {
             return refuse(number::LENGTH_DOES_NOT_FIT, place);
         }
-        if !chunk.codes_are_permitted() {
-            return refuse(number::VALUE_NOT_PERMITTED, chunk_start);
-        }
+        permit(chunk_start, chunk.wrong_code())?;
         let image = self.image.unwrap_or_default();
         let plane = match &self.layer {
             Some(layer) if is_expected(&chunk, &image, layer) => plane(&chunk, &image, layer),
             _ => return refuse(number::NOT_EXPECTED, place),
         };
+        let plane_length = chunk_start + ChannelChunk::PLANE_LENGTH_PLACE;
         let row = match plane.row(u64::from(chunk.plane)) {
             Some(row) => row,
-            None => return refuse(number::VALUE_NOT_PERMITTED, chunk_start),
+            None => return refuse(number::VALUE_NOT_PERMITTED, plane_length),
         };
         let content_start = chunk_start + ChannelChunk::SIZE;
         self.unit(content_start, stored)?;

@@ -8,15 +8,14 @@ use crate::cases;
 use crate::library::Reference;
 use crate::random::Random;
 
-pub fn all(checks: &mut Checks) {
-    let systematic = cases::systematic();
+pub fn all(checks: &mut Checks, systematic: &[Case]) {
     let few_enough = systematic.len() <= 100_000;
     checks.that("200,000 cases hold all systematic ones", few_enough);
     let family = || cases::family(&mut Random::new(7), 20);
     checks.that("the same family again", family() == family());
     let random = made();
     checks.that("the same cases again", random == made());
-    for case in random.iter().chain(&systematic) {
+    for case in random.iter().chain(systematic) {
         one(checks, case);
     }
 }

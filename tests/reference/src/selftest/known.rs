@@ -34,7 +34,14 @@ fn whole_files(checks: &mut Checks) {
         let listing = list(&whole, room as usize);
         (listing.number, listing.place, listing.entries.len())
     });
-    let expected = [(0, 703, 9), (12, 128, 3), (9, 557, 4)];
+    let expected = [
+        (0, 703, 9),
+        (12, 128, 3),
+        (9, 557, 4),
+        (8, 77, 0),
+        (8, 844, 4),
+        (8, 607, 5),
+    ];
     checks.equal("files that arrive", answers, expected);
 }
 

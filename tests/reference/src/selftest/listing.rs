@@ -51,13 +51,14 @@ fn channel(change: &dyn Fn(&mut Vec<u8>)) -> Vec<u8> {
     tree.bytes()
 }
 
-/// The answer to the grey file with its layer changed.
-fn with(change: &dyn Fn(&mut Layer)) -> u32 {
+/// Number and place of the grey file with its layer changed.
+fn with(change: &dyn Fn(&mut Layer)) -> (u32, u64) {
     let mut picture = samples::grey521();
     for layer in picture.layers_mut() {
         change(layer);
     }
-    list(&picture.bytes(), 512).number
+    let listing = list(&picture.bytes(), 512);
+    (listing.number, listing.place)
 }
 
 /// One to thirteen bytes left in a parent.
@@ -137,14 +138,14 @@ fn order_at_a_channel(checks: &mut Checks) {
         data[4] = 9;
         data[8] = 6;
     });
-    checks.listing("then the codes", &bad_codes, (8, 505, 3));
+    checks.listing("then the codes", &bad_codes, (8, 513, 3));
     let bad_channel = channel(&|data| {
         data[4] = 9;
         data[10] = 3;
     });
     checks.listing("then expected", &bad_channel, (9, 491, 3));
     let bad_plane = channel(&|data| data[4] = 5);
-    checks.listing("then the plane length", &bad_plane[..519], (8, 505, 3));
+    checks.listing("then the plane length", &bad_plane[..519], (8, 509, 3));
     checks.listing("then the content", &whole[..519], (2, 517, 3));
 }
 
@@ -198,36 +199,44 @@ fn expected_bitmaps(checks: &mut Checks) {
         checks.listing("a mask instead of the colour", &odd.bytes(), (10, 517, 4));
     }
     for code in 3..=6u8 {
-        let number = if code == 6 { (8, 505, 3) } else { (9, 491, 3) };
+        let number = if code == 6 { (8, 513, 3) } else { (9, 491, 3) };
         checks.listing("bitmaps 3 to 6", &channel(&|data| data[8] = code), number);
     }
-    checks.listing("channel 4", &channel(&|data| data[10] = 4), (8, 505, 3));
+    checks.listing("channel 4", &channel(&|data| data[10] = 4), (8, 515, 3));
 }
 
-/// All four rectangles are judged; the side limit is for the saved ones.
+/// All four rectangles are judged; the side limit is for the saved ones. Each is
+/// named at its first corner: 373, 389, 410 and 426.
 fn rectangles(checks: &mut Checks) {
+    const GOOD: (u32, u64) = (0, 521);
     let wide = Rectangle::new(-32_768, -32_768, 32_767, 32_767);
     let far = Rectangle::new(32_768, 0, 32_768, 0);
-    checks.equal("a wide border", with(&|layer| layer.image_border = wide), 0);
+    let border = with(&|layer| layer.image_border = wide);
+    checks.equal("a wide border", border, GOOD);
     let saved = with(&|layer| layer.image_saved = wide);
-    checks.equal("a wide saved one", saved, 8);
+    checks.equal("a wide saved one", saved, (8, 389));
+    let both = with(&|layer| {
+        layer.image_border = far;
+        layer.image_saved = wide;
+    });
+    checks.equal("its border before it", both, (8, 373));
     let border = with(&|layer| layer.mask_border = far);
-    checks.equal("an empty border out of range", border, 8);
+    checks.equal("an empty border out of range", border, (8, 410));
     let empty = [
-        ("out of range", far, 8),
-        ("elsewhere", Rectangle::new(500, 500, 500, 600), 0),
-        ("too long", Rectangle::new(0, 0, 0, 4_097), 8),
-        ("out of order", Rectangle::new(0, 1, 0, 0), 8),
+        ("out of range", far, (8, 426)),
+        ("elsewhere", Rectangle::new(500, 500, 500, 600), GOOD),
+        ("too long", Rectangle::new(0, 0, 0, 4_097), (8, 426)),
+        ("out of order", Rectangle::new(0, 1, 0, 0), (8, 426)),
     ];
-    for (name, mask, number) in empty {
+    for (name, mask, expected) in empty {
         let answer = with(&|layer| layer.mask_saved = mask);
-        checks.equal(&format!("an empty one {}", name), answer, number);
+        checks.equal(&format!("an empty one {}", name), answer, expected);
     }
     let larger = with(&|layer| {
         layer.image_border = wide;
         layer.image_saved = Rectangle::new(0, 0, 4_096, 4_096);
     });
-    checks.equal("larger than the image", larger, 0);
+    checks.equal("larger than the image", larger, GOOD);
 }
 
 /// Totals of main blocks, and sums past 32 bits.
@@ -358,7 +367,7 @@ fn versions_and_compression(checks: &mut Checks) {
     picture.image.compression = 2;
     checks.listing("compression 2", &picture.bytes(), (11, 50, 0));
     picture.image.layer_count = 65;
-    checks.listing("and a bad field", &picture.bytes(), (8, 50, 0));
+    checks.listing("and a bad field", &picture.bytes(), (8, 86, 0));
 }
 
 /// A layer's and a skipped block's numbers.
