@@ -30,6 +30,7 @@ use Rattle.headers.specs.BlockHeader.{blockHeaderSize}
 use Rattle.headers.specs.FileHeader.{fileHeaderSize}
 use Rattle.attributes.specs.declared.fault.Fault.the-variants.{None, At}
 use Rattle.attributes.specs.ImageAttributes.{imageRule}
+use Rattle.attributes.specs.Fault.{Field}
 use Rattle.attributes.proofs.Named.{starts, later}
 use Rattle.attributes.specs.Depth.{isDepth}
 use Rattle.attributes.proofs.Order.{image-names}
@@ -136,13 +137,11 @@ module _ (s : List ℕ) where
 -- of request (vi)'s pairs the later field is named
 pub later-named : LaterNamed
 later-named = record {
-  image = both (image 16 (λ c. refl)) (both (image 23 (λ c. refl)) (both (image 27 (λ c. refl)) (both (image 36 (λ c. refl)) empty)));
+  image = both (at imageRule 16 (λ c. refl)) (both (at imageRule 23 (λ c. refl)) (both (at imageRule 27 (λ c. refl)) (both (at imageRule 36 (λ c. refl)) empty)));
   layer = λ depth.
-      both (layer depth 273 (λ c. refl)) (both (layer depth 310 (λ c. refl)) (both (layer depth 373 (λ c. refl)) empty));
+      let rule = layerRule depth in
+      both (at rule 273 (λ c. refl)) (both (at rule 310 (λ c. refl)) (both (at rule 373 (λ c. refl)) empty));
 }
   where
-    image : (place : ℕ) → ((chunk : List ℕ) → starts place (imageRule chunk) ≡ true) → Later imageRule place
-    image place begins chunk other offset n = later imageRule chunk other offset place n (begins chunk)
-
-    layer : (depth place : ℕ) → ((chunk : List ℕ) → starts place (layerRule depth chunk) ≡ true) → Later (layerRule depth) place
-    layer depth place begins chunk other offset n = later (layerRule depth) chunk other offset place n (begins chunk)
+    at : (rule : List ℕ → List Field) (place : ℕ) → ((chunk : List ℕ) → starts place (rule chunk) ≡ true) → Later rule place
+    at rule place begins chunk other offset n = later rule chunk other offset place n (begins chunk)
