@@ -40,10 +40,10 @@ int main(int argc, char **argv) {
   psp_layer_facts layer = psp_read_layer_facts(input, length, SIZE_MAX, k);
   if (layer.number != PSP_ACCEPTED) return stop("no such layer");
 
-  /* The layer's channels, and the one that is wanted. */
+  /* The layer's channels, and the one that is wanted. Bitmaps 3 and 4 are those of the selection and of alpha channels. */
   const psp_entry *wanted = NULL;
   for (const psp_entry *entry = entries; entry < entries + listed.count; entry++) {
-    if (entry->skipped || entry->id != CHANNEL_BLOCK || entry->layer != k) continue;
+    if (entry->skipped || entry->id != CHANNEL_BLOCK || entry->layer != k || entry->bitmap > USER_MASK) continue;
     printf("layer %u: bitmap %u channel %u\n", (unsigned)entry->layer, (unsigned)entry->bitmap, (unsigned)entry->channel);
     if (entry->bitmap == bitmap && entry->channel == channel) wanted = entry;
   }

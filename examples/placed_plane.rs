@@ -53,11 +53,13 @@ fn entries(input: &[u8]) -> Result<Vec<Entry>, String> {
     Ok(entries)
 }
 
-/// Shows the layer's channels, and finds the one that is wanted.
+/// Shows the layer's channels, and finds the one that is wanted. Bitmaps 3 and 4 are those of the
+/// selection and of alpha channels.
 fn wanted(entries: &[Entry], k: u32, bitmap: u32, channel: u32) -> Option<&Entry> {
     let mut wanted = None;
     for entry in entries {
-        if entry.skipped != 0 || entry.id != CHANNEL_BLOCK || entry.layer != k {
+        let is_channel = entry.skipped == 0 && entry.id == CHANNEL_BLOCK;
+        if !is_channel || entry.layer != k || entry.bitmap > USER_MASK {
             continue;
         }
         println!(

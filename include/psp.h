@@ -24,7 +24,7 @@ extern "C" {
 /* ---- Version ---- */
 
 #define PSP_VERSION_MAJOR 0
-#define PSP_VERSION_MINOR 4
+#define PSP_VERSION_MINOR 5
 #define PSP_VERSION_PATCH 0
 #define PSP_VERSION (PSP_VERSION_MAJOR * 10000 + PSP_VERSION_MINOR * 100 + PSP_VERSION_PATCH)
 
@@ -70,9 +70,11 @@ uint32_t psp_version(void);
 #define PSP_PLANE_WRONG 42   /* a row or a plane that is not the rectangle's */
 
 /* Views. */
-#define PSP_NO_PALETTE 43  /* depth 24 */
-#define PSP_NO_RAMP 44     /* a ramp of another length than 1,024 would have to stand in */
-#define PSP_NO_LAYER 45    /* k is past the last layer */
+#define PSP_NO_PALETTE 43    /* depth 24 */
+#define PSP_NO_RAMP 44       /* a ramp of another length than 1,024 would have to stand in */
+#define PSP_NO_LAYER 45      /* k is past the last layer */
+#define PSP_NO_SELECTION 46  /* no selection */
+#define PSP_NO_ALPHA 47      /* k is past the last alpha channel */
 
 /* ---- Limits ---- */
 
@@ -84,15 +86,16 @@ uint32_t psp_version(void);
 
 /* ---- Listing ---- */
 
-/* An entry of the table: a block of the file. What a kind does not fill is 0. */
+/* An entry of the table: a block of the file. What a kind does not fill is 0. An entry of level 1 or 2 lies in the last one before it that
+ * is one level up: a channel in a layer, in the selection or in an alpha channel, which its layer number alone does not tell. */
 typedef struct psp_entry {
-  uint32_t id;       /* 0 image, 2 palette, 3 bank, 4 layer, 5 channel; any id when skipped */
+  uint32_t id;       /* 0 image, 2 palette, 3 bank, 4 layer, 5 channel, 6 selection, 7 alpha bank, 8 alpha channel; any id when skipped */
   uint32_t skipped;  /* 0 or 1 */
-  uint32_t level;    /* 0 main, 1 in the bank, 2 in a layer */
+  uint32_t level;    /* 0 main; 1 in the bank, the selection or the alpha bank; 2 in a layer or an alpha channel */
   uint32_t place;    /* where the block's header starts */
   uint32_t owned;    /* bytes owned; all of them tile an accepted input behind its 36-byte header */
-  uint32_t layer;    /* layers count from 0 in file order */
-  uint32_t bitmap;   /* 0 image, 1 transparency mask, 2 user mask */
+  uint32_t layer;    /* layers count from 0 in file order, and alpha channels likewise; a channel has the number of what it lies in */
+  uint32_t bitmap;   /* in a layer 0 image, 1 transparency mask, 2 user mask; in the selection 3, in an alpha channel 4 */
   uint32_t channel;  /* 0 composite, 1 red, 2 green, 3 blue */
   uint32_t start;    /* content start */
   uint32_t stored;   /* stored length */
@@ -171,7 +174,7 @@ psp_rect psp_intersect(psp_rect a, psp_rect b);
 
 /* A part of a slice that the caller lent: which slice, 0 the input or 1 the ramp, where it starts and how long it is. */
 typedef struct psp_part {
-  uint32_t number;  /* 0 to 12, 43 to 45 */
+  uint32_t number;  /* 0 to 12, 43 to 45, 47 */
   uint32_t which;   /* 0 input, 1 ramp; 0 when refused */
   size_t start;     /* 0 when refused */
   size_t length;    /* 0 when refused */
@@ -184,6 +187,9 @@ psp_part psp_palette(const uint8_t *input, size_t length, size_t room, const uin
 /* Shows the name of layer k, its bytes before the first zero or all 256; the input is listed first in a room of so many entries (0 to 12,
  * 45). Nothing is written. */
 psp_part psp_name(const uint8_t *input, size_t length, size_t room, uint32_t k);
+
+/* Shows the name of alpha channel k, likewise (0 to 12, 47). Nothing is written. */
+psp_part psp_alpha_name(const uint8_t *input, size_t length, size_t room, uint32_t k);
 
 /* A value with its metric: 0 unknown, 1 dots an inch, 2 dots a centimetre. */
 typedef struct psp_resolution {
@@ -250,6 +256,39 @@ typedef struct psp_layer_facts {
 /* Gives every field of layer k's chunk; the input is listed first in a room of so many entries (0 to 12, 45). A refusal gives zeros.
  * Nothing is written. */
 psp_layer_facts psp_read_layer_facts(const uint8_t *input, size_t length, size_t room, uint32_t k);
+
+/* The selection information chunk. */
+typedef struct psp_selection_chunk {
+  psp_area area;
+  uint16_t bitmaps;   /* 1 */
+  uint16_t channels;  /* 1 */
+} psp_selection_chunk;
+
+typedef struct psp_selection_facts {
+  uint32_t number;  /* 0 to 12, 46 */
+  psp_selection_chunk selection;
+} psp_selection_facts;
+
+/* Gives every field of the selection's chunk; the input is listed first in a room of so many entries (0 to 12, 46). A refusal gives zeros.
+ * Nothing is written. */
+psp_selection_facts psp_read_selection_facts(const uint8_t *input, size_t length, size_t room);
+
+/* The alpha channel information chunk. */
+typedef struct psp_alpha_chunk {
+  uint8_t name[256];
+  psp_area area;
+  uint16_t bitmaps;   /* 1 */
+  uint16_t channels;  /* 1 */
+} psp_alpha_chunk;
+
+typedef struct psp_alpha_facts {
+  uint32_t number;  /* 0 to 12, 47 */
+  psp_alpha_chunk alpha;
+} psp_alpha_facts;
+
+/* Gives every field of the chunk of alpha channel k; the input is listed first in a room of so many entries (0 to 12, 47). A refusal gives
+ * zeros. Nothing is written. */
+psp_alpha_facts psp_read_alpha_facts(const uint8_t *input, size_t length, size_t room, uint32_t k);
 
 typedef struct psp_dots {
   uint32_t known;  /* 0 or 1 */

@@ -2,10 +2,11 @@
 
 use crate::answer::{self, Refused};
 use crate::failure::Failure;
+use crate::holder::{Chunk, Holder, Which};
 use crate::identity::Identity;
 use crate::lines;
 use crate::name;
-use crate::psp::ffi::{ImageChunk, LayerChunk, ACCEPTED, ENTRY_NUMBERS, INPUT_LIMIT};
+use crate::psp::ffi::{ImageChunk, ACCEPTED, ENTRY_NUMBERS, INPUT_LIMIT};
 use crate::psp::{self, Entry, Listed};
 use std::ffi::OsStr;
 use std::fs::File;
@@ -14,6 +15,9 @@ use std::os::unix::io::AsFd;
 
 /// A view lists again without a table, so any room will do.
 pub const ROOM: usize = usize::MAX;
+
+/// The id of a channel.
+const CHANNEL: u32 = 5;
 
 /// The bytes of a file, and what is known of it besides.
 pub struct Input {
@@ -93,7 +97,7 @@ pub fn refused(answer: &Listed, table: &[u32], input: &[u8], size: Option<u64>) 
     Failure::Refused(refused.sentence())
 }
 
-/// An accepted file, with the entries of the blocks that are not skipped: a few hundred at most.
+/// An accepted file, with the entries of the blocks that are not skipped.
 pub struct Accepted {
     pub bytes: Vec<u8>,
     pub identity: Option<Identity>,
@@ -125,28 +129,58 @@ impl Accepted {
         good(facts.number, facts.image)
     }
 
-    pub fn layer(&self, k: u32) -> Result<LayerChunk, Failure> {
-        let facts = psp::layer_facts(&self.bytes, ROOM, k);
-        good(facts.number, facts.layer)
+    /// Layers, selection and alpha channels, in file order.
+    pub fn holders(&self) -> impl Iterator<Item = Which> + '_ {
+        self.known.iter().filter_map(Which::of)
     }
 
-    pub fn name(&self, k: u32) -> Result<&[u8], Failure> {
-        let view = psp::name(&self.bytes, ROOM, k);
-        good(view.number, view.bytes)
+    /// Those that are asked for, with all that the views show of them: each view lists the file.
+    pub fn holders_of(&self, is_asked: impl Fn(Which) -> bool) -> Result<Vec<Holder>, Failure> {
+        let asked = self.holders().filter(|&which| is_asked(which));
+        asked.map(|which| self.holder(which)).collect()
     }
 
-    /// The numbers of the layers, in file order.
-    pub fn layers(&self) -> impl Iterator<Item = u32> + '_ {
-        self.blocks(4).map(|entry| entry.layer)
+    fn holder(&self, which: Which) -> Result<Holder, Failure> {
+        Ok(Holder {
+            which,
+            name: self.name(which)?.map(<[u8]>::to_vec),
+            chunk: self.chunk(which)?,
+            bitmaps: self.channels(which).map(|entry| entry.bitmap).collect(),
+        })
     }
 
-    /// The channels of layer k, in file order.
-    pub fn channels(&self, k: u32) -> impl Iterator<Item = &Entry> + '_ {
-        self.blocks(5).filter(move |entry| entry.layer == k)
+    fn name(&self, which: Which) -> Result<Option<&[u8]>, Failure> {
+        let view = match which {
+            Which::Layer(k) => psp::name(&self.bytes, ROOM, k),
+            Which::Alpha(k) => psp::alpha_name(&self.bytes, ROOM, k),
+            Which::Selection => return Ok(None),
+        };
+        good(view.number, Some(view.bytes))
     }
 
-    fn blocks(&self, id: u32) -> impl Iterator<Item = &Entry> + '_ {
-        self.known.iter().filter(move |entry| entry.id == id)
+    pub fn chunk(&self, which: Which) -> Result<Chunk, Failure> {
+        match which {
+            Which::Layer(k) => {
+                let facts = psp::layer_facts(&self.bytes, ROOM, k);
+                good(facts.number, Chunk::Layer(facts.layer))
+            }
+            Which::Selection => {
+                let facts = psp::selection_facts(&self.bytes, ROOM);
+                good(facts.number, Chunk::Selection(facts.selection))
+            }
+            Which::Alpha(k) => {
+                let facts = psp::alpha_facts(&self.bytes, ROOM, k);
+                good(facts.number, Chunk::Alpha(facts.alpha))
+            }
+        }
+    }
+
+    /// The channels in one of them, in file order: those behind it up to the next known block, since
+    /// it holds nothing else that is known.
+    pub fn channels(&self, which: Which) -> impl Iterator<Item = &Entry> + '_ {
+        let is_other = move |entry: &&Entry| Which::of(entry) != Some(which);
+        let behind = self.known.iter().skip_while(is_other).skip(1);
+        behind.take_while(|entry| entry.id == CHANNEL)
     }
 }
 

@@ -1,6 +1,8 @@
 //! Refusals in words: what was found, and what to do next.
 
 use crate::fields::{self, Block, MARK};
+use crate::holder::Which;
+use crate::judged::Judged;
 use crate::name;
 use crate::named;
 use crate::psp::ffi::*;
@@ -77,7 +79,7 @@ impl Refused<'_> {
             ),
             MISSING => (
                 "the block that ends here lacks layers or channels that were announced".to_string(),
-                "look in Paint Shop Pro whether layers were lost, and save it again",
+                "look in Paint Shop Pro whether any were lost, and save it again",
             ),
             _ => (UNKNOWN.0.to_string(), UNKNOWN.1),
         }
@@ -154,16 +156,16 @@ impl Refused<'_> {
     }
 
     fn not_expected(&self) -> String {
-        let is_channel = self.header().map(|block| block.id) == Some(5);
-        let channel = fields::channel(self.input, self.place).filter(|_| is_channel);
+        let id = self.header().map(|block| block.id);
+        let channel = fields::channel(self.input, self.place).filter(|_| id == Some(5));
         let codes = channel.map(|channel| {
             let (bitmap, code) = (channel.bitmap, channel.channel);
             format!(", bitmap {} channel {},", bitmap, code)
         });
-        let why = if is_channel {
-            "its layer has it already, has all its channels, or cannot have it"
-        } else {
-            "the image has fewer layers by its own count"
+        let why = match id {
+            Some(5) => self.other_channels(),
+            Some(8) => "the alpha bank has fewer alpha channels by its own count",
+            _ => "the image has fewer layers by its own count",
         };
         let block = self.block();
         format!(
@@ -172,6 +174,16 @@ impl Refused<'_> {
             codes.unwrap_or_default(),
             why
         )
+    }
+
+    /// Which channels there are where the channel at the place is not expected.
+    fn other_channels(&self) -> &'static str {
+        let judged = Judged::behind(self.table, self.input);
+        match judged.and_then(|judged| judged.which()) {
+            Some(Which::Selection) => "a selection has one channel, bitmap 3 channel 0",
+            Some(Which::Alpha(_)) => "an alpha channel has one channel, bitmap 4 channel 0",
+            _ => "its layer has it already, has all its channels, or cannot have it",
+        }
     }
 
     /// The block whose header stands at the place.
@@ -266,6 +278,14 @@ fn of_view(number: u32) -> (&'static str, &'static str) {
             "there is no such layer",
             "psp layers shows those that there are",
         ),
+        NO_SELECTION => (
+            "there is no selection",
+            "psp alphas shows what there is besides",
+        ),
+        NO_ALPHA => (
+            "there is no such alpha channel",
+            "psp alphas shows those that there are",
+        ),
         _ => UNKNOWN,
     }
 }
@@ -327,7 +347,7 @@ mod tests {
         let input = with_block(5);
         let listing = (1..=12).map(|number| refused(number, 36, &input));
         let planes = (20..=27).map(|number| refusal_inside(number, 0, 0));
-        let others = planes.chain((40..=45).map(refusal));
+        let others = planes.chain((40..=47).map(refusal));
         let unknown = [refused(99, 36, &input), refusal(99)];
         // Behind number and place, so that these make no difference.
         let words = |sentence: String| {
@@ -340,7 +360,7 @@ mod tests {
         all.sort();
         all.dedup();
         // The unknown number is one sentence, with a place or without.
-        assert_eq!(all.len(), 12 + 8 + 6 + 1);
+        assert_eq!(all.len(), 12 + 8 + 8 + 1);
     }
 
     #[test]
@@ -419,6 +439,31 @@ mod tests {
             &refused(9, 36, &with_block(4)),
             &["fewer layers by its own count"],
         );
+        holds(
+            &refused(9, 36, &with_block(8)),
+            &["fewer alpha channels by its own count"],
+        );
+    }
+
+    #[test]
+    fn a_channel_is_not_expected_by_what_it_lies_in() {
+        let told = [
+            (4, "its layer has it already"),
+            (6, "a selection has one channel, bitmap 3 channel 0"),
+            (8, "an alpha channel has one channel, bitmap 4 channel 0"),
+        ];
+        for (id, why) in told {
+            let mut table = vec![id, 0, 0, 0, 36];
+            table.resize(ENTRY_NUMBERS, 0);
+            let refused = Refused {
+                number: 9,
+                place: 36,
+                table: &table,
+                input: &with_block(5),
+                size: None,
+            };
+            holds(&refused.sentence(), &["bitmap 2 channel 1,", why]);
+        }
     }
 
     #[test]

@@ -50,6 +50,11 @@ impl Arguments {
         self.operands.clone().try_into().map_err(wrong)
     }
 
+    /// The operands, of a command that takes now more and now fewer.
+    pub fn all(&self) -> &[OsString] {
+        &self.operands
+    }
+
     /// An option's value, the last one if it is given again.
     pub fn option(&self, name: &str) -> Option<&OsStr> {
         let mut options = self.options.iter().rev();

@@ -25,6 +25,10 @@ impl Columns {
         self.rows.push(cells);
     }
 
+    pub fn has_rows(&self) -> bool {
+        self.rows.len() > 1
+    }
+
     /// The lines of the table, two spaces between columns and none at a line's end.
     pub fn lines(&self) -> impl Iterator<Item = String> + '_ {
         let widths: Vec<usize> = (0..self.sides.len()).map(|at| self.width(at)).collect();
@@ -54,9 +58,11 @@ mod tests {
     #[test]
     fn columns_are_as_wide_as_their_widest_cell() {
         let mut columns = Columns::new(&[("layer", Side::Right), ("name", Side::Left)]);
+        assert!(!columns.has_rows());
         columns.row(vec!["0".to_string(), "Café".to_string()]);
         columns.row(vec!["10".to_string(), "".to_string()]);
         let lines: Vec<String> = columns.lines().collect();
         assert_eq!(lines, ["layer  name", "    0  Café", "   10"]);
+        assert!(columns.has_rows());
     }
 }

@@ -67,7 +67,7 @@ pub fn run(words: &[OsString]) -> Result<(), Failure> {
 
 /// What is said on how a table was read, and how it differs from the file's.
 pub fn compared(file: &OsStr, table: &OsStr) -> Result<(Vec<String>, Report), Failure> {
-    let layers = export::layers(&Accepted::read(file)?)?;
+    let layers = export::compared(&Accepted::read(file)?)?;
     let text = accepted::read(table)?;
     let typed = typed::table(&text).map_err(|why| accepted::unreadable(table, &why))?;
     Ok((typed.said, difference::report(&layers, &typed.rows)))

@@ -1,81 +1,89 @@
-//! `psp layers --csv` and `--json`: the table for other programs.
+//! `--csv` and `--json` of `psp layers` and `psp alphas`: their tables for other programs.
 
 use crate::accepted::Accepted;
-use crate::arguments::Arguments;
+use crate::asked::Form;
 use crate::failure::Failure;
+use crate::holder::{Holder, Which};
 use crate::name;
 use crate::output;
 use crate::shape::sides;
-use crate::table::{self, Besides, Layer};
+use crate::table::{self, Alpha, Besides, Layer};
 use std::ffi::OsStr;
 use std::io::Write;
 
-pub enum Form {
-    Csv,
-    Json,
-}
-
-/// The form that is asked for, if any; of the options of `psp layers` only one is given.
-pub fn form(arguments: &Arguments) -> Result<Option<Form>, Failure> {
-    let is_given = |option| arguments.option(option).is_some();
-    match ["--border", "--csv", "--json"].map(is_given) {
-        [_, false, false] => Ok(None),
-        [false, true, false] => Ok(Some(Form::Csv)),
-        [false, false, true] => Ok(Some(Form::Json)),
-        _ => Err(Failure::Use(
-            "only one of --border, --csv and --json is given".to_string(),
-        )),
+pub fn layers(file: &OsStr, form: Form) -> Result<(), Failure> {
+    let holders = Accepted::read(file)?.holders_of(Which::is_layer)?;
+    let layers = || holders.iter().map(layer);
+    match form {
+        Form::Json => {
+            let besides: Vec<_> = layers().zip(holders.iter().map(besides)).collect();
+            print(table::json(&besides).as_bytes())
+        }
+        _ => {
+            let layers: Vec<Layer> = layers().collect();
+            print_csv(&table::csv(&layers), &holders)
+        }
     }
 }
 
-pub fn print(file: &OsStr, form: Form) -> Result<(), Failure> {
-    let file = Accepted::read(file)?;
-    let layers = layers(&file)?;
-    let text = match form {
-        Form::Csv if moves_terminal(&layers) => {
-            let why = "a name has bytes that a terminal obeys: write the table to a file";
-            return Err(Failure::Use(why.to_string()));
-        }
-        Form::Csv => table::csv(&layers),
-        Form::Json => table::json(&with_besides(&file, layers)?).into_bytes(),
-    };
-    let mut out = output::standard();
-    out.write_all(&text)?;
-    out.flush()?;
-    Ok(())
-}
-
-/// Whether standard output is a terminal that would obey a name, whose bytes are printed as they
-/// are.
-fn moves_terminal(layers: &[Layer]) -> bool {
-    let mut names = layers.iter().flat_map(|layer| &layer.name);
-    names.any(|&byte| name::moves_terminal(byte)) && output::is_terminal("/dev/stdout")
+pub fn alphas(file: &OsStr, form: Form) -> Result<(), Failure> {
+    let holders = Accepted::read(file)?.holders_of(|which| !which.is_layer())?;
+    let alphas: Vec<Alpha> = holders.iter().filter_map(alpha).collect();
+    match form {
+        Form::Json => print(table::alphas_json(&alphas).as_bytes()),
+        _ => print_csv(&table::alphas_csv(&alphas), &holders),
+    }
 }
 
 /// The layers as they are compared, in file order.
-pub fn layers(file: &Accepted) -> Result<Vec<Layer>, Failure> {
-    let layer = |k| {
-        Ok(Layer {
-            name: file.name(k)?.to_vec(),
-            rectangle: sides(&file.layer(k)?.image.saved),
-        })
-    };
-    file.layers().map(layer).collect()
+pub fn compared(file: &Accepted) -> Result<Vec<Layer>, Failure> {
+    let holders = file.holders_of(Which::is_layer)?;
+    Ok(holders.iter().map(layer).collect())
 }
 
-fn with_besides(file: &Accepted, layers: Vec<Layer>) -> Result<Vec<(Layer, Besides)>, Failure> {
-    let besides = |k, layer| {
-        let facts = file.layer(k)?;
-        let has = |bitmap| file.channels(k).any(|channel| channel.bitmap == bitmap);
-        let masks = [(1, "transparency"), (2, "user")];
-        let masks = masks.iter().filter(|(bitmap, _)| has(*bitmap));
-        let besides = Besides {
-            border: sides(&facts.image.border),
-            visible: facts.visible != 0,
-            masks: masks.map(|(_, mask)| *mask).collect(),
-        };
-        Ok((layer, besides))
+/// The selection or an alpha channel, if it is one.
+pub fn alpha(holder: &Holder) -> Option<Alpha> {
+    let ranked = match (holder.which, &holder.name) {
+        (Which::Layer(_), _) => return None,
+        (Which::Alpha(rank), Some(name)) => Some((rank, name.clone())),
+        _ => None,
     };
-    let both = file.layers().zip(layers);
-    both.map(|(k, layer)| besides(k, layer)).collect()
+    let area = holder.chunk.area(0);
+    Some(Alpha {
+        ranked,
+        rectangle: sides(&area.saved),
+        border: sides(&area.border),
+    })
+}
+
+fn layer(holder: &Holder) -> Layer {
+    Layer {
+        name: holder.name.clone().unwrap_or_default(),
+        rectangle: sides(&holder.chunk.area(0).saved),
+    }
+}
+
+fn besides(holder: &Holder) -> Besides {
+    Besides {
+        border: sides(&holder.chunk.area(0).border),
+        visible: holder.is_visible(),
+        masks: holder.masks().unwrap_or_default(),
+    }
+}
+
+/// Prints names as their bytes, unless standard output is a terminal that would obey one.
+fn print_csv(text: &[u8], holders: &[Holder]) -> Result<(), Failure> {
+    let mut names = holders.iter().flat_map(|holder| &holder.name).flatten();
+    if names.any(|&byte| name::moves_terminal(byte)) && output::is_terminal("/dev/stdout") {
+        let why = "a name has bytes that a terminal obeys: write the table to a file";
+        return Err(Failure::Use(why.to_string()));
+    }
+    print(text)
+}
+
+fn print(text: &[u8]) -> Result<(), Failure> {
+    let mut out = output::standard();
+    out.write_all(text)?;
+    out.flush()?;
+    Ok(())
 }

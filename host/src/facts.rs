@@ -1,43 +1,91 @@
-//! `psp facts`: every field of the image and of each layer.
+//! `psp facts`: every field of the image and of what holds planes.
 
 use crate::arguments::Arguments;
 use crate::failure::Failure;
 use crate::found::Found;
+use crate::holder::{Chunk, Holder};
 use crate::name;
 use crate::output;
 use crate::psp;
-use crate::psp::ffi::{ImageChunk, LayerChunk, Rect};
-use std::ffi::OsString;
+use crate::psp::ffi::{Area, ImageChunk, LayerChunk, Rect};
+use crate::wanted::Wanted;
+use std::ffi::{OsStr, OsString};
 use std::io::{self, Write};
 
 pub const HELP: &str = "\
-psp facts FILE
+psp facts FILE [LAYER | selection | alpha RANK]
 
 Shows every field of the image chunk, with dots per centimetre where there are any, and then every
-field of each layer's chunk in file order. A rectangle is left, top, right, bottom, the lower right
-corner exclusive. Of a refused file the fields of what was found before its place are shown, below a
-first line that says so.
+field of each layer's chunk, the selection's and each alpha channel's in file order; or the fields
+of one of these alone. LAYER counts from 0, the bottom layer, and RANK alpha channels from 0. A
+rectangle is left, top, right, bottom, the lower right corner exclusive. Of a refused file the
+fields of what was found before its place are shown, below a first line that says so.
 ";
 
 pub fn run(words: &[OsString]) -> Result<(), Failure> {
-    let [file] = Arguments::parse(words, &[])?.operands("facts FILE")?;
-    let found = Found::read(&file)?;
+    let arguments = Arguments::parse(words, &[])?;
+    let (file, wanted) = asked(&arguments)?;
+    let is_wanted = |which| wanted.as_ref().map_or(true, |wanted| wanted.is(which));
+    let found = Found::read(file, is_wanted)?;
+    let sections = sections(&found, wanted.is_none());
     let mut out = output::standard();
-    if let Some(image) = &found.image {
+    if !sections.is_empty() {
         found.mark(&mut out)?;
-        show(&mut out, "image", &image_facts(image))?;
     }
-    for layer in &found.layers {
-        let title = format!("layer {}", layer.number);
-        show(&mut out, &title, &layer_facts(&layer.name, &layer.chunk))?;
+    for section in &sections {
+        show(&mut out, section)?;
     }
     out.flush()?;
-    found.end()
+    match wanted {
+        Some(wanted) if sections.is_empty() => {
+            let absent = wanted.absent(found.there.iter().copied());
+            found.end().and(Err(absent))
+        }
+        _ => found.end(),
+    }
+}
+
+/// The file, and what is wanted of it if not all.
+fn asked(arguments: &Arguments) -> Result<(&OsStr, Option<Wanted>), Failure> {
+    let wrong = "the command is psp facts FILE [LAYER | selection | alpha RANK]";
+    match arguments.all() {
+        [file] => return Ok((file, None)),
+        [file, words @ ..] => {
+            if let Some((wanted, [])) = Wanted::of(words)? {
+                return Ok((file, Some(wanted)));
+            }
+        }
+        [] => {}
+    }
+    Err(Failure::Use(wrong.to_string()))
 }
 
 type Fact = (&'static str, String);
 
-fn show(out: &mut dyn Write, title: &str, facts: &[Fact]) -> io::Result<()> {
+/// A title, and what stands below it.
+type Section = (String, Vec<Fact>);
+
+fn sections(found: &Found, with_image: bool) -> Vec<Section> {
+    let image = found.image.iter().filter(|_| with_image);
+    let image = image.map(|image| ("image".to_string(), image_facts(image)));
+    image.chain(found.holders.iter().map(section)).collect()
+}
+
+fn section(holder: &Holder) -> Section {
+    let name = name::quoted(holder.name.as_deref().unwrap_or_default());
+    let facts = match &holder.chunk {
+        Chunk::Layer(layer) => layer_facts(name, layer),
+        Chunk::Selection(of) => mask_facts(of.area, of.bitmaps, of.channels),
+        Chunk::Alpha(of) => {
+            let mut facts = vec![("name", name)];
+            facts.extend(mask_facts(of.area, of.bitmaps, of.channels));
+            facts
+        }
+    };
+    (holder.which.to_string(), facts)
+}
+
+fn show(out: &mut dyn Write, (title, facts): &Section) -> io::Result<()> {
     writeln!(out, "{}", title)?;
     for (field, value) in facts {
         writeln!(out, "  {:<23} {}", field, value)?;
@@ -70,9 +118,9 @@ fn image_facts(image: &ImageChunk) -> Vec<Fact> {
     ]
 }
 
-fn layer_facts(name: &[u8], layer: &LayerChunk) -> Vec<Fact> {
+fn layer_facts(name: String, layer: &LayerChunk) -> Vec<Fact> {
     vec![
-        ("name", name::quoted(name)),
+        ("name", name),
         ("type", layer.kind.to_string()),
         ("image border", corners(&layer.image.border)),
         ("saved image", corners(&layer.image.saved)),
@@ -93,6 +141,16 @@ fn layer_facts(name: &[u8], layer: &LayerChunk) -> Vec<Fact> {
         ("blend range bytes", hexadecimal(&layer.ranges)),
         ("bitmaps", layer.bitmaps.to_string()),
         ("channels", layer.channels.to_string()),
+    ]
+}
+
+/// What a selection and an alpha channel have in common.
+fn mask_facts(area: Area, bitmaps: u16, channels: u16) -> Vec<Fact> {
+    vec![
+        ("border", corners(&area.border)),
+        ("saved", corners(&area.saved)),
+        ("bitmaps", bitmaps.to_string()),
+        ("channels", channels.to_string()),
     ]
 }
 

@@ -1,7 +1,9 @@
 //! Fields at their fixed places, for files that the library's views refuse: only of blocks that a
 //! listing has passed, or of the bytes at a refusal's place. Document 000 has the order of fields.
 
-use crate::psp::ffi::{Area, Entry, ImageChunk, LayerChunk, Rect, Resolution};
+use crate::holder::Chunk;
+use crate::psp::ffi::{AlphaChunk, Area, Entry, ImageChunk, LayerChunk};
+use crate::psp::ffi::{Rect, Resolution, SelectionChunk};
 
 /// Bytes of a block header.
 pub const HEADER: usize = 14;
@@ -76,8 +78,17 @@ pub fn image(input: &[u8], entry: &Entry) -> Option<ImageChunk> {
     })
 }
 
-/// The chunk of a layer block, an entry of a listing.
-pub fn layer(input: &[u8], entry: &Entry) -> Option<LayerChunk> {
+/// The chunk of a layer, a selection or an alpha channel, an entry of a listing.
+pub fn holder(input: &[u8], entry: &Entry) -> Option<Chunk> {
+    match entry.id {
+        4 => layer(input, entry).map(Chunk::Layer),
+        6 => selection(input, entry).map(Chunk::Selection),
+        8 => alpha(input, entry).map(Chunk::Alpha),
+        _ => None,
+    }
+}
+
+fn layer(input: &[u8], entry: &Entry) -> Option<LayerChunk> {
     let mut fields = Fields::of(input, entry)?;
     Some(LayerChunk {
         name: fields.bytes()?,
@@ -99,10 +110,23 @@ pub fn layer(input: &[u8], entry: &Entry) -> Option<LayerChunk> {
     })
 }
 
-/// A layer's name: the bytes before the first zero, or all 256.
-pub fn name(layer: &LayerChunk) -> &[u8] {
-    let mut parts = layer.name.split(|&byte| byte == 0);
-    parts.next().unwrap_or(&[])
+fn selection(input: &[u8], entry: &Entry) -> Option<SelectionChunk> {
+    let mut fields = Fields::of(input, entry)?;
+    Some(SelectionChunk {
+        area: fields.area()?,
+        bitmaps: fields.word()?,
+        channels: fields.word()?,
+    })
+}
+
+fn alpha(input: &[u8], entry: &Entry) -> Option<AlphaChunk> {
+    let mut fields = Fields::of(input, entry)?;
+    Some(AlphaChunk {
+        name: fields.bytes()?,
+        area: fields.area()?,
+        bitmaps: fields.word()?,
+        channels: fields.word()?,
+    })
 }
 
 /// Little-endian fields one after another, none where the bytes end.
@@ -222,7 +246,7 @@ mod tests {
         chunk[371..].copy_from_slice(&[2, 0, 4, 0]);
         let (input, entry) = entry(&chunk);
         let layer = layer(&input, &entry).expect("a whole chunk");
-        assert_eq!(name(&layer), b"ab");
+        assert_eq!(layer.name[..3], *b"ab\0");
         assert_eq!(layer.kind, 5);
         assert_eq!(
             (layer.image.border.left, layer.image.border.bottom),
@@ -239,14 +263,28 @@ mod tests {
     }
 
     #[test]
-    fn a_name_ends_before_its_first_zero_or_is_all_256() {
-        let mut chunk = vec![b'x'; 375];
+    fn selection_and_alpha_fields_stand_at_their_places() {
+        let (input, whole) = entry(&counted(36));
+        let selection = selection(&input, &whole).expect("a whole chunk");
+        let Area { border, saved } = selection.area;
+        assert_eq!((border.left, border.bottom), (0x0403_0201, 0x100F_0E0D));
+        assert_eq!((saved.left, saved.bottom), (0x1413_1211, 0x201F_1E1D));
+        assert_eq!((selection.bitmaps, selection.channels), (0x2221, 0x2423));
+        let chunk: Vec<u8> = [&[b'n'; 256][..], &counted(36)].concat();
         let (input, whole) = entry(&chunk);
-        let layer_of = |input: &[u8], entry: &Entry| layer(input, entry).expect("a whole chunk");
-        assert_eq!(name(&layer_of(&input, &whole)), [b'x'; 256]);
-        chunk[0] = 0;
-        let (input, none) = entry(&chunk);
-        assert_eq!(name(&layer_of(&input, &none)), b"");
+        let alpha = alpha(&input, &whole).expect("a whole chunk");
+        assert_eq!((alpha.name, alpha.area), ([b'n'; 256], selection.area));
+        assert_eq!((alpha.bitmaps, alpha.channels), (0x2221, 0x2423));
+    }
+
+    #[test]
+    fn a_chunk_is_read_by_the_kind_of_its_block() {
+        let (input, whole) = entry(&counted(375));
+        let of = |id| holder(&input, &Entry { id, ..whole });
+        assert!(matches!(of(4), Some(Chunk::Layer(_))));
+        assert!(matches!(of(6), Some(Chunk::Selection(_))));
+        assert!(matches!(of(8), Some(Chunk::Alpha(_))));
+        assert!([0, 2, 3, 5, 7, 9, 99].iter().all(|&id| of(id).is_none()));
     }
 
     #[test]
@@ -255,6 +293,15 @@ mod tests {
         assert!(layer(&input, &short).is_some());
         short.owned -= 1;
         assert!(layer(&input, &short).is_none());
+        for (id, size) in [(6, 36), (8, 292)] {
+            let [whole, short] = [0, 1].map(|less| Entry {
+                id,
+                owned: (HEADER + size - less) as u32,
+                ..short
+            });
+            assert!(holder(&input, &whole).is_some());
+            assert!(holder(&input, &short).is_none());
+        }
         assert!(layer(&input[..input.len() - 1], &entry(&counted(375)).1).is_none());
         short.place = u32::MAX;
         assert!(image(&input, &short).is_none());

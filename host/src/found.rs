@@ -2,25 +2,23 @@
 //! refusal's place.
 
 use crate::accepted::{self, Accepted, Input};
+use crate::columns::Columns;
 use crate::failure::Failure;
 use crate::fields;
+use crate::holder::{Holder, Which};
 use crate::lines;
-use crate::psp::ffi::{Entry, ImageChunk, LayerChunk, Listed, ACCEPTED};
+use crate::output;
+use crate::psp::ffi::{Entry, ImageChunk, Listed, ACCEPTED};
 use std::ffi::OsStr;
 use std::io::{self, Write};
 
 pub struct Found {
     pub image: Option<ImageChunk>,
-    pub layers: Vec<Layer>,
+    /// Which layers, selection and alpha channels there are, in file order.
+    pub there: Vec<Which>,
+    /// Those of them that were asked for.
+    pub holders: Vec<Holder>,
     refusal: Option<Refusal>,
-}
-
-pub struct Layer {
-    pub number: u32,
-    pub name: Vec<u8>,
-    pub chunk: LayerChunk,
-    /// The bitmap of each of its channels that was found.
-    pub bitmaps: Vec<u32>,
 }
 
 struct Refusal {
@@ -29,15 +27,18 @@ struct Refusal {
 }
 
 impl Found {
-    pub fn read(file: &OsStr) -> Result<Found, Failure> {
+    pub fn read(file: &OsStr, is_asked: impl Fn(Which) -> bool) -> Result<Found, Failure> {
         let input = Input::read(file)?;
         let (answer, table) = accepted::list(&input.bytes)?;
         if answer.number == ACCEPTED {
-            return Found::whole(&Accepted::listed(input, &table));
+            return Found::whole(&Accepted::listed(input, &table), is_asked);
         }
         let mut found = Found {
             image: None,
-            layers: Vec::new(),
+            there: lines::entries(&table)
+                .filter_map(|of| Which::of(&of))
+                .collect(),
+            holders: Vec::new(),
             refusal: Some(Refusal {
                 answer,
                 failure: input.refused(&answer, &table),
@@ -46,23 +47,16 @@ impl Found {
         for entry in lines::entries(&table) {
             found.add(&input.bytes, &entry);
         }
+        found.holders.retain(|holder| is_asked(holder.which));
         Ok(found)
     }
 
     /// All that the library's views show.
-    fn whole(file: &Accepted) -> Result<Found, Failure> {
-        let layer = |k| {
-            Ok(Layer {
-                number: k,
-                name: file.name(k)?.to_vec(),
-                chunk: file.layer(k)?,
-                bitmaps: file.channels(k).map(|channel| channel.bitmap).collect(),
-            })
-        };
-        let layers: Result<Vec<Layer>, Failure> = file.layers().map(layer).collect();
+    fn whole(file: &Accepted, is_asked: impl Fn(Which) -> bool) -> Result<Found, Failure> {
         Ok(Found {
             image: Some(file.image()?),
-            layers: layers?,
+            there: file.holders().collect(),
+            holders: file.holders_of(is_asked)?,
             refusal: None,
         })
     }
@@ -71,13 +65,13 @@ impl Found {
     fn add(&mut self, input: &[u8], entry: &Entry) {
         match (entry.skipped, entry.id) {
             (0, 0) => self.image = fields::image(input, entry),
-            (0, 4) => self.layers.extend(layer(input, entry)),
             (0, 5) => {
-                if let Some(layer) = self.layers.last_mut() {
-                    layer.bitmaps.push(entry.bitmap);
+                // None holds another one, so a channel lies in the last of them.
+                if let Some(holder) = self.holders.last_mut() {
+                    holder.bitmaps.push(entry.bitmap);
                 }
             }
-            _ => {}
+            _ => self.holders.extend(holder(input, entry)),
         }
     }
 
@@ -93,6 +87,19 @@ impl Found {
         }
     }
 
+    /// Prints a table of what was found; of a refused file it needs a row.
+    pub fn print(self, table: &Columns) -> Result<(), Failure> {
+        let mut out = output::standard();
+        if self.refusal.is_none() || table.has_rows() {
+            self.mark(&mut out)?;
+            for line in table.lines() {
+                writeln!(out, "{}", line)?;
+            }
+        }
+        out.flush()?;
+        self.end()
+    }
+
     /// The refusal, if there is one.
     pub fn end(self) -> Result<(), Failure> {
         match self.refusal {
@@ -102,27 +109,13 @@ impl Found {
     }
 }
 
-fn layer(input: &[u8], entry: &Entry) -> Option<Layer> {
-    let chunk = fields::layer(input, entry)?;
-    Some(Layer {
-        number: entry.layer,
-        name: fields::name(&chunk).to_vec(),
+fn holder(input: &[u8], entry: &Entry) -> Option<Holder> {
+    let which = Which::of(entry)?;
+    let chunk = fields::holder(input, entry)?;
+    Some(Holder {
+        which,
+        name: chunk.name().map(<[u8]>::to_vec),
         chunk,
         bitmaps: Vec::new(),
     })
-}
-
-impl Layer {
-    /// Which masks it has, where all its channels were found.
-    pub fn masks(&self) -> &'static str {
-        if self.bitmaps.len() < usize::from(self.chunk.channels) {
-            return "not known";
-        }
-        match (self.bitmaps.contains(&1), self.bitmaps.contains(&2)) {
-            (false, false) => "none",
-            (true, false) => "transparency",
-            (false, true) => "user",
-            (true, true) => "transparency, user",
-        }
-    }
 }

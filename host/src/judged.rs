@@ -2,15 +2,15 @@
 //! belongs to, is told by its header and by the entries; nothing is judged here a second time.
 
 use crate::fields::{self, Channel, HEADER};
+use crate::holder::{Chunk, Which};
 use crate::lines;
 use crate::name;
-use crate::psp::ffi::{Entry, ImageChunk, LayerChunk};
+use crate::psp::ffi::{Entry, ImageChunk};
 
 /// Where the first block begins: behind the file header.
 const FIRST: u32 = 36;
 
 const IMAGE: u32 = 0;
-const LAYER: u32 = 4;
 const CHANNEL: u32 = 5;
 
 pub struct Judged<'a> {
@@ -32,12 +32,15 @@ impl<'a> Judged<'a> {
         let id = fields::block(input, header)?.id.into();
         let listed = lines::entries(table).filter(|entry| entry.skipped == 0);
         let mut blocks: Vec<Entry> = listed.collect();
+        // A layer or an alpha channel counts those before it.
+        let before = blocks.iter().filter(|block| block.id == id).count();
         // A chunk is judged only when all of it is there, so its fields end before the input does.
         let owned = u32::try_from(input.len()).ok()?.checked_sub(place)?;
         blocks.push(Entry {
             id,
             place,
             owned,
+            layer: u32::try_from(before).ok()?,
             ..Entry::default()
         });
         Some(Judged {
@@ -55,12 +58,18 @@ impl<'a> Judged<'a> {
 
     /// The image, or itself where it is one.
     pub fn image(&self) -> Option<ImageChunk> {
-        fields::image(self.input, self.nearest(IMAGE)?)
+        let is_image = |block: &&Entry| block.id == IMAGE;
+        fields::image(self.input, self.blocks.iter().rev().find(is_image)?)
     }
 
-    /// The layer that it lies in, or itself where it is one.
-    pub fn layer(&self) -> Option<LayerChunk> {
-        fields::layer(self.input, self.nearest(LAYER)?)
+    /// The layer, selection or alpha channel that it lies in, or itself where it is one.
+    pub fn which(&self) -> Option<Which> {
+        self.nearest().and_then(Which::of)
+    }
+
+    /// The chunk of that.
+    pub fn holder(&self) -> Option<Chunk> {
+        fields::holder(self.input, self.nearest()?)
     }
 
     /// Itself, as a channel.
@@ -68,25 +77,27 @@ impl<'a> Judged<'a> {
         fields::channel(self.input, self.header)
     }
 
-    /// The layer's number, from 0 in file order, and its name.
-    pub fn layer_words(&self) -> Option<String> {
-        let layer = self.layer()?;
-        let layers = self.blocks.iter().filter(|block| block.id == LAYER);
-        let number = layers.count().checked_sub(1)?;
-        let name = name::quoted(fields::name(&layer));
-        Some(format!("layer {} ({})", number, name))
+    /// What it lies in, or is, by its number and its name where it has them.
+    pub fn holder_words(&self) -> Option<String> {
+        let (which, chunk) = (self.which()?, self.holder()?);
+        Some(match chunk.name() {
+            Some(name) => format!("{} ({})", which, name::quoted(name)),
+            None => which.to_string(),
+        })
     }
 
-    /// The layer, and which of its channels it is, from 0 in file order.
+    /// What it lies in, and which of the channels there it is, from 0 in file order.
     pub fn channel_words(&self) -> Option<String> {
-        let behind_layer = self.blocks.iter().rev();
-        let behind_layer = behind_layer.take_while(|block| block.id != LAYER);
-        let channels = behind_layer.filter(|block| block.id == CHANNEL);
+        let behind = self.blocks.iter().rev();
+        let behind = behind.take_while(|block| Which::of(block).is_none());
+        let channels = behind.filter(|block| block.id == CHANNEL);
         let number = channels.count().checked_sub(1)?;
-        Some(format!("{}, channel {}", self.layer_words()?, number))
+        Some(format!("{}, channel {}", self.holder_words()?, number))
     }
 
-    fn nearest(&self, id: u32) -> Option<&Entry> {
-        self.blocks.iter().rev().find(|block| block.id == id)
+    /// None holds another one, so the last of them is the one that it lies in.
+    fn nearest(&self) -> Option<&Entry> {
+        let mut blocks = self.blocks.iter().rev();
+        blocks.find(|block| Which::of(block).is_some())
     }
 }

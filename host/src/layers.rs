@@ -1,15 +1,14 @@
 //! `psp layers`: the operator's table.
 
-use crate::arguments::{Arguments, Known};
+use crate::asked::{Asked, Form};
 use crate::columns::{Columns, Side};
 use crate::export;
 use crate::failure::Failure;
 use crate::found::Found;
+use crate::holder::{Holder, Which};
 use crate::name;
-use crate::output;
 use crate::shape::sides;
 use std::ffi::OsString;
-use std::io::Write;
 
 pub const HELP: &str = "\
 psp layers FILE [--border | --csv | --json]
@@ -27,23 +26,13 @@ character, are \\u0081 and so on. Both show nothing of a refused file.
 ";
 
 pub fn run(words: &[OsString]) -> Result<(), Failure> {
-    let known = ["--border", "--csv", "--json"].map(Known::Flag);
-    let arguments = Arguments::parse(words, &known)?;
-    let [file] = arguments.operands("layers FILE [--border | --csv | --json]")?;
-    if let Some(form) = export::form(&arguments)? {
-        return export::print(&file, form);
+    let Asked { file, form } = Asked::of("layers", words)?;
+    if let Form::Csv | Form::Json = form {
+        return export::layers(&file, form);
     }
-    let border = arguments.option("--border").is_some();
-    let found = Found::read(&file)?;
-    let mut out = output::standard();
-    if !found.layers.is_empty() {
-        found.mark(&mut out)?;
-        for line in table(&found, border).lines() {
-            writeln!(out, "{}", line)?;
-        }
-    }
-    out.flush()?;
-    found.end()
+    let found = Found::read(&file, Which::is_layer)?;
+    let table = table(&found, form == Form::Border);
+    found.print(&table)
 }
 
 fn table(found: &Found, border: bool) -> Columns {
@@ -57,18 +46,26 @@ fn table(found: &Found, border: bool) -> Columns {
         ("visible", Side::Left),
         ("masks", Side::Left),
     ]);
-    for layer in &found.layers {
-        let area = layer.chunk.image;
-        let sides = sides(if border { &area.border } else { &area.saved });
-        let visible = if layer.chunk.visible == 0 {
-            "no"
-        } else {
-            "yes"
-        };
-        let mut row = vec![layer.number.to_string(), name::quoted(&layer.name)];
-        row.extend(sides.iter().map(i64::to_string));
-        row.extend([visible, layer.masks()].map(str::to_string));
-        table.row(row);
+    for holder in &found.holders {
+        if let Which::Layer(number) = holder.which {
+            table.row(row(number, holder, border));
+        }
     }
     table
+}
+
+fn row(number: u32, layer: &Holder, border: bool) -> Vec<String> {
+    let area = layer.chunk.area(0);
+    let sides = sides(if border { &area.border } else { &area.saved });
+    let name = layer.name.as_deref().unwrap_or_default();
+    let visible = if layer.is_visible() { "yes" } else { "no" };
+    let masks = match layer.masks() {
+        Some(masks) if masks.is_empty() => "none".to_string(),
+        Some(masks) => masks.join(", "),
+        None => "not known".to_string(),
+    };
+    let mut row = vec![number.to_string(), name::quoted(name)];
+    row.extend(sides.iter().map(i64::to_string));
+    row.extend([visible.to_string(), masks]);
+    row
 }

@@ -24,6 +24,9 @@ pub fn entry_line(index: usize, entry: &Entry) -> String {
         2 => ("palette", &content[..2]),
         3 => ("bank", &[][..]),
         4 => ("layer", &plane[..1]),
+        6 => ("selection", &[][..]),
+        7 => ("alphabank", &[][..]),
+        8 => ("alpha", &plane[..1]),
         _ => ("channel", &plane[..]),
     };
     let mut line = format!("{} {} {} {} {}", index, kind, e.level, e.place, e.owned);
@@ -87,6 +90,22 @@ mod tests {
             entry_line(3, &channel),
             "3 channel 2 491 30 0 0 0 517 4 1 1 4 4"
         );
+    }
+
+    #[test]
+    fn an_alpha_channel_has_its_rank() {
+        let selection = only(&[6, 0, 0, 521, 50, 0, 0, 0, 0, 0, 0, 0, 0, 0]);
+        assert_eq!(entry_line(4, &selection), "4 selection 0 521 50");
+        let bank = only(&[7, 0, 0, 601, 16, 0, 0, 0, 0, 0, 0, 0, 0, 0]);
+        assert_eq!(entry_line(6, &bank), "6 alphabank 0 601 16");
+        let alpha = only(&[8, 0, 1, 617, 306, 2, 0, 0, 0, 0, 0, 0, 0, 0]);
+        assert_eq!(entry_line(7, &alpha), "7 alpha 1 617 306 2");
+        let channel = only(&[5, 0, 2, 923, 30, 2, 4, 0, 949, 4, 1, 1, 4, 4]);
+        let line = "8 channel 2 923 30 2 4 0 949 4 1 1 4 4";
+        assert_eq!(entry_line(8, &channel), line);
+        // What is skipped is a skip, whatever its id.
+        let skip = only(&[6, 1, 0, 521, 18, 0, 0, 0, 535, 4, 0, 0, 0, 0]);
+        assert_eq!(entry_line(4, &skip), "4 skip 0 521 18 535 4 6");
     }
 
     #[test]

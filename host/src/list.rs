@@ -14,10 +14,11 @@ psp list FILE
 
 Lists the blocks of a file in file order. The first line has answer number, place and count; each
 line behind it is an entry: index, kind, level, place, bytes owned, and then
-  layer           its number
-  channel         layer, bitmap, channel, content start, stored length, width, height, plane
-                  length, bytes of a row
+  layer, alpha    its number, from 0
+  channel         number of the layer or alpha channel that it lies in (0 in a selection), bitmap,
+                  channel, content start, stored length, width, height, plane length, bytes of a row
   palette, skip   content start, stored length; a skip ends with its id
+What an entry lies in is the last one above it whose level is one less.
 Of a refused file, the entries found before the place are listed.
 ";
 

@@ -1,8 +1,10 @@
 //! The command `psp`: Paint Shop Pro 3.0 files for a support desk, read by the proved library.
 
 mod accepted;
+mod alphas;
 mod answer;
 mod arguments;
+mod asked;
 mod collect;
 mod collection;
 mod columns;
@@ -21,6 +23,7 @@ mod found;
 mod growing;
 mod growth;
 mod heading;
+mod holder;
 mod identity;
 mod judged;
 mod layers;
@@ -54,15 +57,18 @@ use std::io::Write;
 use std::process::ExitCode;
 
 const HELP: &str = "\
-psp list FILE                                   the blocks, in document 01's lines
-psp layers FILE [--border | --csv | --json]     the layers, the bottom one first
-psp facts FILE                                  every field of the image and its layers
-psp palette FILE                                the palette, or the ramp of a grey image
-psp plane FILE LAYER BITMAP CHANNEL -o OUT.pgm  one plane as a picture
-psp compare FILE TYPED                          a table typed by hand against the file's
-psp compare --all FOLDER                        each X.psp against the X.csv beside it
-psp follow FILE [--idle SECONDS]                the listing while the file arrives
-psp COMMAND --help                              more on a command
+psp list FILE                                    the blocks, in document 01's lines
+psp layers FILE [--border | --csv | --json]      the layers, the bottom one first
+psp alphas FILE [--border | --csv | --json]      the selection and the alpha channels
+psp facts FILE [LAYER | selection | alpha RANK]  every field of the image and of these, or of one
+psp palette FILE                                 the palette, or the ramp of a grey image
+psp plane FILE LAYER BITMAP CHANNEL -o OUT.pgm   one plane of a layer as a picture
+psp plane FILE selection -o OUT.pgm              that of the selection
+psp plane FILE alpha RANK -o OUT.pgm             that of an alpha channel
+psp compare FILE TYPED                           a table typed by hand against the file's
+psp compare --all FOLDER                         each X.psp against the X.csv beside it
+psp follow FILE [--idle SECONDS]                 the listing while the file arrives
+psp COMMAND --help                               more on a command
 psp --version
 
 FILE may be - for standard input, except in follow. The status is 0 if the file is accepted, 1 if
@@ -70,7 +76,7 @@ it is refused, differs or lacks what was asked for, 2 for wrong use or a file th
 written.
 ";
 
-const VERSION: &str = "0.4.0";
+const VERSION: &str = "0.5.0";
 
 struct Command {
     help: &'static str,
@@ -112,6 +118,7 @@ fn command(name: &str) -> Option<Command> {
     let (help, run): (_, fn(&[OsString]) -> _) = match name {
         "list" => (list::HELP, list::run),
         "layers" => (layers::HELP, layers::run),
+        "alphas" => (alphas::HELP, alphas::run),
         "facts" => (facts::HELP, facts::run),
         "palette" => (palette::HELP, palette::run),
         "plane" => (plane::HELP, plane::run),

@@ -3,6 +3,7 @@
 //! rules all are told.
 
 use crate::fields::Fields;
+use crate::holder::{Chunk, Which};
 use crate::judged::Judged;
 use crate::psp::ffi::{Rect, LAYER_LIMIT, SIDE_LIMIT};
 use crate::shape;
@@ -24,7 +25,7 @@ const PALETTE: Kind = Kind {
 };
 const LAYER: Kind = Kind {
     id: 4,
-    words: |judged| judged.layer_words(),
+    words: |judged| judged.holder_words(),
 };
 const CHANNEL: Kind = Kind {
     id: 5,
@@ -34,6 +35,14 @@ const CHANNEL: Kind = Kind {
 const TYPED: Kind = Kind {
     id: 5,
     words: typed_channel,
+};
+const SELECTION: Kind = Kind {
+    id: 6,
+    words: |judged| judged.holder_words(),
+};
+const ALPHA: Kind = Kind {
+    id: 8,
+    words: |judged| judged.holder_words(),
 };
 
 /// How a value reads, as it stands in the file.
@@ -64,12 +73,12 @@ type Next = fn(&Judged) -> &'static str;
 
 const SAVE: Next = |_| SAVE_AGAIN;
 const MEMORY: Next = |_| IN_MEMORY;
-const IMAGE_BORDER: Next = |judged| border_advice(judged.layer().map(|layer| layer.image.border));
-const MASK_BORDER: Next = |judged| border_advice(judged.layer().map(|layer| layer.mask.border));
+const BORDER: Next = |judged| border_advice(judged, 0);
+const MASK_BORDER: Next = |judged| border_advice(judged, 2);
 
 /// From a border's corner a rectangle is counted otherwise only if that is away from (0,0).
-fn border_advice(border: Option<Rect>) -> &'static str {
-    match border {
+fn border_advice(judged: &Judged, bitmap: u32) -> &'static str {
+    match judged.holder().map(|chunk| chunk.area(bitmap).border) {
         Some(border) if (border.left, border.top) != (0, 0) => FROM_THE_CORNER,
         _ => SAVE_AGAIN,
     }
@@ -79,7 +88,7 @@ fn border_advice(border: Option<Rect>) -> &'static str {
 struct Field(Kind, usize, &'static str, Value, Permitted, Next);
 
 #[rustfmt::skip] // a line a field
-const FIELDS: [Field; 21] = [
+const FIELDS: [Field; 29] = [
     Field(IMAGE, 0, "image width", LONG, By(side), SAVE),
     Field(IMAGE, 4, "image height", LONG, By(side), SAVE),
     Field(IMAGE, 16, "resolution metric", BYTE, By(metric), SAVE),
@@ -92,15 +101,23 @@ const FIELDS: [Field; 21] = [
     Field(PALETTE, 0, "palette entry count", DWORD, By(entries), SAVE),
     Field(LAYER, 256, "layer type", BYTE, Be("0 or 1"), SAVE),
     Field(LAYER, 257, "image rectangle", CORNERS, By(border), SAVE),
-    Field(LAYER, 273, "saved image rectangle", CORNERS, By(saved_image), IMAGE_BORDER),
+    Field(LAYER, 273, "saved image rectangle", CORNERS, By(saved_image), BORDER),
     Field(LAYER, 294, "mask rectangle", CORNERS, By(border), SAVE),
     Field(LAYER, 310, "saved mask rectangle", CORNERS, By(saved_mask), MASK_BORDER),
     Field(LAYER, 329, "blend range count", WORD, Be("0 to 5"), SAVE),
     Field(LAYER, 371, "count of bitmaps", WORD, Be("1 to 3"), SAVE),
     Field(LAYER, 373, "channel count", WORD, By(channels), SAVE),
     Field(TYPED, 4, "uncompressed channel length", DWORD, By(plane_length), MEMORY),
-    Field(CHANNEL, 8, "bitmap type", WORD, Be("0 to 5, and in a layer 0 to 2"), SAVE),
-    Field(CHANNEL, 10, "channel type", WORD, Be("0 to 3"), SAVE),
+    Field(CHANNEL, 8, "bitmap type", WORD, By(bitmap_type), SAVE),
+    Field(CHANNEL, 10, "channel type", WORD, By(channel_type), SAVE),
+    Field(SELECTION, 0, "selection rectangle", CORNERS, By(border), SAVE),
+    Field(SELECTION, 16, "saved selection rectangle", CORNERS, By(saved_selection), BORDER),
+    Field(SELECTION, 32, "selection bitmap count", WORD, Be("1"), SAVE),
+    Field(SELECTION, 34, "channel count", WORD, Be("1"), SAVE),
+    Field(ALPHA, 256, "alpha channel rectangle", CORNERS, By(border), SAVE),
+    Field(ALPHA, 272, "saved alpha channel rectangle", CORNERS, By(saved_alpha), BORDER),
+    Field(ALPHA, 288, "alpha channel bitmap count", WORD, Be("1"), SAVE),
+    Field(ALPHA, 290, "channel count", WORD, Be("1"), SAVE),
 ];
 
 /// The words for the field at a refusal's place, and what to do next. None where the entries before
@@ -178,27 +195,41 @@ fn border(_: &Judged) -> Option<String> {
 }
 
 fn saved_image(judged: &Judged) -> Option<String> {
-    Some(saved("image rectangle", &judged.layer()?.image.border))
+    saved(judged, 0, "image rectangle")
 }
 
 fn saved_mask(judged: &Judged) -> Option<String> {
-    Some(saved("mask rectangle", &judged.layer()?.mask.border))
+    saved(judged, 2, "mask rectangle")
+}
+
+fn saved_selection(judged: &Judged) -> Option<String> {
+    saved(judged, 3, "selection rectangle")
+}
+
+fn saved_alpha(judged: &Judged) -> Option<String> {
+    saved(judged, 4, "alpha channel rectangle")
 }
 
 const CORNERS_ARE: &str = "coordinates are -32,768 to 32,767, corners must be in order";
 
-fn saved(around: &str, border: &Rect) -> String {
-    format!(
+/// The saved rectangle of a bitmap's planes, with the one around it.
+fn saved(judged: &Judged, bitmap: u32, around: &str) -> Option<String> {
+    let border = judged.holder()?.area(bitmap).border;
+    Some(format!(
         "sides are 0 to {}, {}, and it must lie inside the {} {} unless it is empty",
         grouped(SIDE_LIMIT),
         CORNERS_ARE,
         around,
-        corners(border)
-    )
+        corners(&border)
+    ))
 }
 
 fn channels(judged: &Judged) -> Option<String> {
-    let (depth, bitmaps) = (judged.image()?.depth, judged.layer()?.bitmaps.into());
+    let bitmaps = match judged.holder()? {
+        Chunk::Layer(layer) => layer.bitmaps.into(),
+        _ => return None,
+    };
+    let depth = judged.image()?.depth;
     let colours = if depth == 24 { 3 } else { 1 };
     Some(format!(
         "it must be {}: {} (bit depth {}) + {} - 1",
@@ -209,11 +240,29 @@ fn channels(judged: &Judged) -> Option<String> {
     ))
 }
 
+fn bitmap_type(judged: &Judged) -> Option<String> {
+    let here = match judged.which()? {
+        Which::Layer(_) => "in a layer 0 to 2",
+        Which::Selection => "in a selection 3",
+        Which::Alpha(_) => "in an alpha channel 4",
+    };
+    Some(format!("it must be 0 to 5, and {}", here))
+}
+
+fn channel_type(judged: &Judged) -> Option<String> {
+    let here = match judged.which()? {
+        Which::Layer(_) => "",
+        Which::Selection => ", and in a selection 0",
+        Which::Alpha(_) => ", and in an alpha channel 0",
+    };
+    Some(format!("it must be 0 to 3{}", here))
+}
+
 /// The lengths that the channel's plane may have.
 fn plane_length(judged: &Judged) -> Option<String> {
     let bitmap = judged.channel()?.bitmap.into();
     let bits = shape::bits(&judged.image()?, bitmap);
-    let [_, _, width, height] = shape::sides(&shape::saved(&judged.layer()?, bitmap));
+    let [_, _, width, height] = shape::sides(&judged.holder()?.area(bitmap).saved);
     let permitted = match shape::lengths(width, height, bits) {
         (padded, Some(short)) => {
             let [padded, short] = [padded, short].map(grouped);
@@ -256,8 +305,8 @@ mod tests {
     struct File {
         input: Vec<u8>,
         table: Vec<u32>,
-        /// Id, skipped, level, place, bytes owned.
-        last: Option<[u32; 5]>,
+        /// Id, skipped, level, place, bytes owned, number among its kind.
+        last: Option<[u32; 6]>,
     }
 
     impl File {
@@ -272,12 +321,14 @@ mod tests {
         fn with(mut self, id: u16, size: usize, chunk: &[Bytes]) -> File {
             if let Some(listed) = self.last {
                 self.table.extend(listed);
-                self.table.extend([0; ENTRY_NUMBERS - 5]);
+                self.table.extend([0; ENTRY_NUMBERS - 6]);
             }
             let place = self.input.len();
             let owned = HEADER + size;
             let skipped = u32::from(id > 11);
-            self.last = Some([id.into(), skipped, 0, place as u32, owned as u32]);
+            let entries = self.table.chunks(ENTRY_NUMBERS);
+            let number = entries.filter(|entry| entry[0] == id.into()).count() as u32;
+            self.last = Some([id.into(), skipped, 0, place as u32, owned as u32, number]);
             self.input.extend(b"~BK\0");
             self.input.extend(id.to_le_bytes());
             self.input.resize(place + owned, 0);
@@ -303,7 +354,7 @@ mod tests {
 
         /// What is said of the field at an offset of the last block's chunk.
         fn said(&self, offset: usize) -> Option<(String, &'static str)> {
-            let [.., place, _] = self.last?;
+            let [.., place, _, _] = self.last?;
             let place = place as usize + HEADER + offset;
             field(place, &self.table, &self.input)
         }
@@ -317,10 +368,13 @@ mod tests {
     fn fields_stand_in_file_order_by_different_names() {
         let keys: Vec<(u32, usize)> = FIELDS.iter().map(|field| (field.0.id, field.1)).collect();
         assert!(keys.windows(2).all(|two| two[0] < two[1]));
-        let mut names: Vec<&str> = FIELDS.iter().map(|field| field.2).collect();
+        // Document 000 calls one field of three chunks by one name.
+        let mut names: Vec<_> = FIELDS.iter().map(|field| (field.2, field.0.id)).collect();
         names.sort();
         names.dedup();
         assert_eq!(names.len(), FIELDS.len());
+        names.dedup_by_key(|(name, _)| *name);
+        assert_eq!(names.len(), FIELDS.len() - 2);
     }
 
     #[test]
@@ -530,6 +584,121 @@ mod tests {
         let other = third.layer(b"White", &[]).channel([1, 0], 0);
         let words = "layer 1 (\"White\"), channel 0 (bitmap type 1, channel type 0), ";
         assert!(other.words(4).starts_with(words));
+    }
+
+    /// A selection, and behind it an alpha bank with an alpha channel. Both saved rectangles have 9
+    /// by 3 pixels.
+    fn with_masks() -> [File; 2] {
+        let selection: [Bytes; 3] = [(24, &[9]), (28, &[3]), (32, &[2, 1])];
+        let alpha: [Bytes; 5] = [
+            (0, b"Varnish"),
+            (256, &[1]),
+            (280, &[9]),
+            (284, &[3]),
+            (290, &[7]),
+        ];
+        let file = || File::image(1, &[]).with(3, 0, &[]).layer(b"Red", &[]);
+        let selected = || file().channel([0, 0], 4).with(6, 36, &selection);
+        let bank = selected().channel([3, 0], 27).with(7, 2, &[]);
+        [selected(), bank.with(8, 292, &alpha)]
+    }
+
+    #[test]
+    fn a_selection_and_an_alpha_channel_have_names_of_their_own() {
+        let [selection, alpha] = with_masks();
+        let rules = "coordinates are -32,768 to 32,767, corners must be in order";
+        let inside = format!(
+            "sides are 0 to 4,096, {}, and it must lie inside the",
+            rules
+        );
+        let counted = "it must be 1";
+        let told = [
+            (0, format!("selection rectangle (0,0)-(0,0): {}", rules)),
+            (
+                16,
+                format!(
+                    "saved selection rectangle (0,0)-(9,3): {} selection rectangle (0,0)-(0,0) \
+                     unless it is empty",
+                    inside
+                ),
+            ),
+            (32, format!("selection bitmap count 258: {}", counted)),
+            (34, format!("channel count 0: {}", counted)),
+        ];
+        for (offset, words) in told {
+            let words = format!("selection, {}", words);
+            assert_eq!(selection.said(offset), Some((words, SAVE_AGAIN)));
+        }
+        let told = [
+            (
+                256,
+                format!("alpha channel rectangle (1,0)-(0,0): {}", rules),
+                SAVE_AGAIN,
+            ),
+            (
+                272,
+                format!(
+                    "saved alpha channel rectangle (0,0)-(9,3): {} alpha channel rectangle \
+                     (1,0)-(0,0) unless it is empty",
+                    inside
+                ),
+                FROM_THE_CORNER,
+            ),
+            (
+                288,
+                format!("alpha channel bitmap count 0: {}", counted),
+                SAVE_AGAIN,
+            ),
+            (290, format!("channel count 7: {}", counted), SAVE_AGAIN),
+        ];
+        for (offset, words, next) in told {
+            let words = format!("alpha channel 0 (\"Varnish\"), {}", words);
+            assert_eq!(alpha.said(offset), Some((words, next)));
+        }
+    }
+
+    #[test]
+    fn a_channel_is_told_by_what_it_lies_in() {
+        let [selection, alpha] = with_masks();
+        let selected = selection.channel([6, 4], 35);
+        let types = "it must be 0 to 5, and in a selection 3";
+        let words = format!("selection, channel 0, bitmap type 6: {}", types);
+        assert_eq!(selected.words(8), words);
+        let words = "selection, channel 0, channel type 4: it must be 0 to 3, and in a selection 0";
+        assert_eq!(selected.words(10), words);
+        // Numbers of a layer and of an alpha channel may be the same: the last of them holds it.
+        let second = alpha.channel([4, 0], 36).with(8, 292, &[(0, b"Gloss")]);
+        let words = "alpha channel 1 (\"Gloss\"), channel count 0: it must be 1";
+        assert_eq!(second.words(290), words);
+        let channel = second.with(99, 3, &[]).channel([9, 9], 0);
+        let words = "alpha channel 1 (\"Gloss\"), channel 0, bitmap type 9: \
+                     it must be 0 to 5, and in an alpha channel 4";
+        assert_eq!(channel.words(8), words);
+        let words = "alpha channel 1 (\"Gloss\"), channel 0, channel type 9: \
+                     it must be 0 to 3, and in an alpha channel 0";
+        assert_eq!(channel.words(10), words);
+    }
+
+    #[test]
+    fn the_plane_of_a_mask_has_8_bits_at_every_depth() {
+        let [selection, alpha] = with_masks();
+        let lengths = "9 by 3 pixels of 8 bits take 36 bytes with padded rows or 27 without";
+        let told = [
+            (selection.channel([3, 0], 35), "selection", 3),
+            (
+                alpha.channel([4, 0], 35),
+                "alpha channel 0 (\"Varnish\")",
+                4,
+            ),
+        ];
+        for (file, holder, bitmap) in told {
+            let words = format!(
+                "{}, channel 0 (bitmap type {}, channel type 0), \
+                 uncompressed channel length 35: {}",
+                holder, bitmap, lengths
+            );
+            assert_eq!(file.said(4), Some((words, IN_MEMORY)));
+        }
     }
 
     #[test]

@@ -5,63 +5,109 @@ use crate::answer;
 use crate::arguments::{Arguments, Known};
 use crate::destination;
 use crate::failure::Failure;
-use crate::psp::ffi::{ImageChunk, ACCEPTED};
+use crate::holder::Which;
+use crate::psp::ffi::{ImageChunk, Rect, ACCEPTED};
 use crate::psp::{self, Entry};
 use crate::shape;
-use crate::wanted::{self, Number};
+use crate::wanted::{self, Number, Wanted};
 use crate::widen::{self, Plane};
-use std::ffi::OsString;
+use std::ffi::{OsStr, OsString};
 
 pub const HELP: &str = "\
 psp plane FILE LAYER BITMAP CHANNEL -o OUT.pgm
+psp plane FILE selection -o OUT.pgm
+psp plane FILE alpha RANK -o OUT.pgm
 
 Reads one plane, places it on a black canvas of the image's size and writes a binary PGM, one byte
 a pixel; -o - writes it to standard output. LAYER counts from 0, the bottom layer. BITMAP is 0 the
 image, 1 the transparency mask, 2 the user mask. CHANNEL is 0 for masks and below depth 24, and 1
-red, 2 green, 3 blue at depth 24. Pixels of a paletted image are palette indices. The greatest
+red, 2 green, 3 blue at depth 24. RANK counts alpha channels from 0, as psp alphas shows them; each
+has one plane, and so has a selection. Pixels of a paletted image are palette indices. The greatest
 value (maxval) is 1 for an image bitmap of depth 1, 15 at depth 4, and otherwise 255. Rows of
 8-bit pixels may be padded or not: the plane's length tells, and nothing has to be chosen. OUT.pgm
 is written beside its place and renamed when it is complete, so a file that stood there survives a
 failure; FILE is never written over, but of a pipe nobody can tell which file it comes from.
 ";
 
-const LINE: &str = "plane FILE LAYER BITMAP CHANNEL -o OUT.pgm";
+const LINE: &str = "plane FILE (LAYER BITMAP CHANNEL | selection | alpha RANK) -o OUT.pgm";
 
 pub fn run(words: &[OsString]) -> Result<(), Failure> {
     let arguments = Arguments::parse(words, &[Known::Valued("-o")])?;
-    let [file, layer, bitmap, channel] = arguments.operands(LINE)?;
-    let out = arguments.option("-o");
-    let out = out.ok_or_else(|| Failure::Use(format!("the command is psp {}", LINE)))?;
-    let wanted = [
-        Number::of(&layer, "LAYER")?,
-        Number::of(&bitmap, "BITMAP")?,
-        Number::of(&channel, "CHANNEL")?,
-    ];
-    let file = Accepted::read(&file)?;
-    let picture = picture(&file, channel_of(&file, &wanted)?)?;
-    destination::write(out, &picture, file.identity)
+    let wrong = || Failure::Use(format!("the command is psp {}", LINE));
+    let words = Words::of(&arguments)?.ok_or_else(wrong)?;
+    let file = Accepted::read(words.file)?;
+    let which = file.holders().find(|&which| words.wanted.is(which));
+    let which = which.ok_or_else(|| words.wanted.absent(file.holders()))?;
+    let channel = channel(&file, which, words.codes.as_ref())?;
+    let picture = picture(&file, which, channel)?;
+    destination::write(words.out, &picture, file.identity)
 }
 
-/// The channel that is wanted.
-fn channel_of<'a>(
+/// Bitmap and channel of a layer.
+type Codes = [Number; 2];
+
+/// The words of the command, by what they mean.
+struct Words<'a> {
+    file: &'a OsStr,
+    wanted: Wanted,
+    codes: Option<Codes>,
+    out: &'a OsStr,
+}
+
+impl<'a> Words<'a> {
+    /// None where there are too few or too many.
+    fn of(arguments: &'a Arguments) -> Result<Option<Words<'a>>, Failure> {
+        let (file, words, out) = match (arguments.all(), arguments.option("-o")) {
+            ([file, words @ ..], Some(out)) => (file, words, out),
+            _ => return Ok(None),
+        };
+        let (wanted, codes) = match Wanted::of(words)? {
+            Some((layer @ Wanted::Layer(_), [bitmap, channel])) => {
+                let bitmap = Number::of(bitmap, "BITMAP")?;
+                (layer, Some([bitmap, Number::of(channel, "CHANNEL")?]))
+            }
+            Some((mask @ (Wanted::Selection | Wanted::Alpha(_)), [])) => (mask, None),
+            _ => return Ok(None),
+        };
+        Ok(Some(Words {
+            file,
+            wanted,
+            codes,
+            out,
+        }))
+    }
+}
+
+/// The channel that is wanted: of a layer the one with these codes, otherwise the only one.
+fn channel<'a>(
     file: &'a Accepted,
-    [layer, bitmap, channel]: &[Number; 3],
+    which: Which,
+    codes: Option<&Codes>,
 ) -> Result<&'a Entry, Failure> {
-    let k = file.layers().find(|&k| layer.is(k));
-    let k = k.ok_or_else(|| wanted::no_layer(layer, file.layers().count()))?;
-    let is_it = |entry: &&Entry| bitmap.is(entry.bitmap) && channel.is(entry.channel);
-    file.channels(k).find(is_it).ok_or_else(|| {
-        let has = file.channels(k).map(|entry| (entry.bitmap, entry.channel));
-        wanted::no_channel(k, &has.collect::<Vec<_>>(), [bitmap, channel])
-    })
+    let mut channels = file.channels(which);
+    match codes {
+        Some([bitmap, channel]) => {
+            let is_it = |entry: &&Entry| bitmap.is(entry.bitmap) && channel.is(entry.channel);
+            channels.find(is_it).ok_or_else(|| {
+                let channels = file.channels(which);
+                let has: Vec<_> = channels.map(|of| (of.bitmap, of.channel)).collect();
+                wanted::no_channel(which, &has, [bitmap, channel])
+            })
+        }
+        None => {
+            let none = || Failure::Absent(format!("{} has no channel", which));
+            channels.next().ok_or_else(none)
+        }
+    }
 }
 
 /// The PGM of a channel.
-fn picture(file: &Accepted, entry: &Entry) -> Result<Vec<u8>, Failure> {
+fn picture(file: &Accepted, which: Which, entry: &Entry) -> Result<Vec<u8>, Failure> {
     let image = file.image()?;
     let bits = shape::bits(&image, entry.bitmap);
     let plane = plane(file, entry, &image, bits)?;
-    let canvas = canvas(file, entry, &image, &plane)?;
+    let saved = file.chunk(which)?.area(entry.bitmap).saved;
+    let canvas = canvas(&image, saved, &plane)?;
     let greatest = (1u32 << bits) - 1;
     let mut picture = format!("P5\n{} {}\n{}\n", image.width, image.height, greatest).into_bytes();
     picture.extend_from_slice(&canvas);
@@ -84,13 +130,7 @@ fn plane(file: &Accepted, entry: &Entry, image: &ImageChunk, bits: u16) -> Resul
 }
 
 /// The plane at its saved rectangle, black around it.
-fn canvas(
-    file: &Accepted,
-    entry: &Entry,
-    image: &ImageChunk,
-    plane: &Plane,
-) -> Result<Vec<u8>, Failure> {
-    let saved = shape::saved(&file.layer(entry.layer)?, entry.bitmap);
+fn canvas(image: &ImageChunk, saved: Rect, plane: &Plane) -> Result<Vec<u8>, Failure> {
     let [width, height] = [image.width, image.height].map(i32::unsigned_abs);
     let mut canvas = accepted::zeros(width as usize * height as usize)?;
     let number = psp::place(width, height, &mut canvas, saved, &plane.bytes, plane.row);

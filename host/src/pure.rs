@@ -6,6 +6,7 @@
 
 mod answer;
 mod arguments;
+mod asked;
 mod collection;
 mod columns;
 mod csv;
@@ -17,6 +18,7 @@ mod failure;
 mod fields;
 mod growth;
 mod heading;
+mod holder;
 mod identity;
 mod judged;
 mod lines;

@@ -1,6 +1,6 @@
-//! The shape of a channel's plane, by the image and the layer that it belongs to.
+//! The shape of a channel's plane, by the image and the rectangle that it has.
 
-use crate::psp::ffi::{ImageChunk, LayerChunk, Rect};
+use crate::psp::ffi::{ImageChunk, Rect};
 
 /// Left, top, width, height.
 pub fn sides(r: &Rect) -> [i64; 4] {
@@ -13,14 +13,6 @@ pub fn bits(image: &ImageChunk, bitmap: u32) -> u16 {
     match image.depth {
         depth if bitmap == 0 && depth < 8 => depth,
         _ => 8,
-    }
-}
-
-/// The rectangle that the planes of a bitmap have.
-pub fn saved(layer: &LayerChunk, bitmap: u32) -> Rect {
-    match bitmap {
-        2 => layer.mask.saved,
-        _ => layer.image.saved,
     }
 }
 

@@ -12,13 +12,6 @@ fn grey() -> Vec<u8> {
 /// The same with another plane.
 fn grey_with(plane: &[u8]) -> Vec<u8> {
     let length = plane.len() as u32;
-    let block = |id: u8, initial: u32, total: u32| {
-        let mut header = b"~BK\0".to_vec();
-        header.extend_from_slice(&[id, 0]);
-        header.extend_from_slice(&initial.to_le_bytes());
-        header.extend_from_slice(&total.to_le_bytes());
-        header
-    };
     let mut file = b"Paint Shop Pro Image File\n\x1a\0\0\0\0\0\x03\0\0\0".to_vec();
     file.extend(block(0, 38, 38));
     let mut image = [0; 38];
@@ -45,6 +38,15 @@ fn grey_with(plane: &[u8]) -> Vec<u8> {
     file.extend([length, length, 0].map(u32::to_le_bytes).concat());
     file.extend_from_slice(plane);
     file
+}
+
+/// The header of a block.
+fn block(id: u8, initial: u32, total: u32) -> Vec<u8> {
+    let mut header = b"~BK\0".to_vec();
+    header.extend_from_slice(&[id, 0]);
+    header.extend_from_slice(&initial.to_le_bytes());
+    header.extend_from_slice(&total.to_le_bytes());
+    header
 }
 
 const SQUARE: Rect = Rect {
@@ -198,6 +200,78 @@ fn facts_are_the_fields() {
     assert_eq!(numbers::layer_facts(&file, usize::MAX, 1).number, 45);
 }
 
+/// The file with a selection and two alpha channels behind it, each of one pixel and without
+/// padding.
+fn grey_with_masks() -> Vec<u8> {
+    let mut file = grey();
+    file.extend(mask(6, &[], 3));
+    let alphas = [mask(8, b"a", 4), mask(8, b"Varnish", 4)].concat();
+    file.extend(block(7, 2, 2 + alphas.len() as u32));
+    file.extend([2, 0]);
+    file.extend(alphas);
+    file
+}
+
+/// The block of a selection, or of an alpha channel, which has a name.
+fn mask(id: u8, name: &[u8], bitmap: u8) -> Vec<u8> {
+    let mut chunk = name.to_vec();
+    chunk.resize(if id == 8 { 256 } else { 0 }, 0);
+    let corners = [0, 0, 1, 1].map(u32::to_le_bytes).concat();
+    chunk.extend([&corners[..], &corners, &[1, 0, 1, 0]].concat());
+    let mut channel = block(5, 12, 13);
+    channel.extend([1, 1, u32::from(bitmap)].map(u32::to_le_bytes).concat());
+    channel.push(9);
+    let total = chunk.len() + channel.len();
+    let header = block(id, chunk.len() as u32, total as u32);
+    [header, chunk, channel].concat()
+}
+
+#[test]
+fn a_selection_and_alpha_channels_are_listed() {
+    let file = grey_with_masks();
+    let mut table = [0; 11 * ENTRY_NUMBERS];
+    let mut records = [Entry::default(); 11];
+    let listed = numbers::list_records(&file, &mut table, &mut records);
+    assert_eq!((listed.number, listed.count), (0, 11));
+    let found = records.map(|e| [e.id, e.level, e.owned, e.layer, e.bitmap, e.row]);
+    let expected = [
+        [6, 0, 50, 0, 0, 0],
+        [5, 1, 27, 0, 3, 1],
+        [7, 0, 16, 0, 0, 0],
+        [8, 1, 306, 0, 0, 0],
+        [5, 2, 27, 0, 4, 1],
+        [8, 1, 306, 1, 0, 0],
+        [5, 2, 27, 1, 4, 1],
+    ];
+    assert_eq!(found[4..], expected);
+    assert!(records.iter().all(|entry| entry.skipped == 0));
+}
+
+#[test]
+fn a_selection_and_alpha_channels_have_facts() {
+    let (file, room) = (grey_with_masks(), usize::MAX);
+    let facts = numbers::selection_facts(&file, room);
+    let selection = facts.selection;
+    assert_eq!((facts.number, selection.area.saved), (0, SQUARE));
+    assert_eq!(selection.area.border, SQUARE);
+    assert_eq!((selection.bitmaps, selection.channels), (1, 1));
+    let facts = numbers::alpha_facts(&file, room, 1);
+    let alpha = facts.alpha;
+    assert_eq!((facts.number, alpha.area), (0, selection.area));
+    assert_eq!((&alpha.name[..8], alpha.name[255]), (&b"Varnish\0"[..], 0));
+    assert_eq!((alpha.bitmaps, alpha.channels), (1, 1));
+    let name = numbers::alpha_name(&file, room, 0);
+    assert_eq!((name.number, name.bytes), (0, &b"a"[..]));
+
+    let third = numbers::alpha_facts(&file, room, 2);
+    assert_eq!((third.number, third.alpha.bitmaps), (47, 0));
+    assert_eq!(numbers::alpha_name(&file, room, 2).number, 47);
+    let none = numbers::selection_facts(&grey(), room);
+    assert_eq!((none.number, none.selection.channels), (46, 0));
+    assert_eq!(numbers::alpha_facts(&grey(), room, 0).number, 47);
+    assert_eq!(numbers::selection_facts(&file, 3).number, 12);
+}
+
 #[test]
 fn dots_per_centimetre_is_one_division() {
     let inch = numbers::dots_per_centimetre(300.0, 1);
@@ -217,13 +291,16 @@ fn slices_may_be_empty() {
     assert_eq!(numbers::pack(&[], &mut []).length, 0);
     assert_eq!(numbers::read_plane(&[], 0, 0, 0, 0, &mut []).number, 0);
     assert_eq!(numbers::name(&[], 0, 0).number, 2);
+    assert_eq!(numbers::alpha_name(&[], 0, 0).number, 2);
+    assert_eq!(numbers::alpha_facts(&[], 0, 0).number, 2);
+    assert_eq!(numbers::selection_facts(&[], 0).number, 2);
     assert_eq!(numbers::palette(&[], 0, &[]).bytes, b"");
 }
 
 #[test]
 fn the_library_is_the_header_s_and_the_crate_s() {
     assert_eq!(numbers::version(), psp::ffi::VERSION);
-    assert_eq!(psp::version().to_string(), "0.4.0");
+    assert_eq!(psp::version().to_string(), "0.5.0");
     // Where cargo builds this, its own manifest has the version too.
     if let Some(version) = option_env!("CARGO_PKG_VERSION") {
         assert_eq!(psp::version().to_string(), version);
@@ -329,6 +406,17 @@ fn a_view_is_what_it_shows_or_its_refusal() {
     assert_eq!(saved, Ok(SQUARE));
     let refused = psp::layer_facts(&file, room, 1).map(|layer| layer.channels);
     assert_eq!(refused, Err(Refusal::NoLayer));
+    let masks = grey_with_masks();
+    let saved = psp::selection_facts(&masks, room).map(|selection| selection.area.saved);
+    assert_eq!(saved, Ok(SQUARE));
+    let refused = psp::selection_facts(&file, room).map(|selection| selection.channels);
+    assert_eq!(refused, Err(Refusal::NoSelection));
+    let saved = psp::alpha_facts(&masks, room, 1).map(|alpha| alpha.area.saved);
+    assert_eq!(saved, Ok(SQUARE));
+    let refused = psp::alpha_facts(&masks, room, 2).map(|alpha| alpha.channels);
+    assert_eq!(refused, Err(Refusal::NoAlpha));
+    assert_eq!(psp::alpha_name(&masks, room, 1), Ok(&b"Varnish"[..]));
+    assert_eq!(psp::alpha_name(&file, room, 0), Err(Refusal::NoAlpha));
     assert_eq!(psp::dots_per_centimetre(300.0, 2), Some(300.0));
     assert_eq!(psp::dots_per_centimetre(300.0, 0), None);
 }

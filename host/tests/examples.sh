@@ -36,6 +36,13 @@ for form in padded unpadded; do
       "$($emulator "$root/target/host/placed_plane$language" mug-$form.psp 4 1 0 | tail -n 1)"
   done
 done
+# A selection's channel and the first alpha channel's have the number 0, as the layer has.
+placed "a layer beside alpha channels" 'layer 0: bitmap 0 channel 1
+layer 0: bitmap 0 channel 2
+layer 0: bitmap 0 channel 3
+plane of 1 by 1 pixels, 4 bytes
+placed at (0,0) on 6 by 4: 1 pixels are not 0' alphas.psp 0 0 2
+not_placed 'the layer has no such channel' alphas.psp 0 4 0
 not_placed 'no such layer' mug.psp 11 0 0
 not_placed 'the layer has no such channel' grey521.psp 0 1 0
 not_placed 'several pixels a byte: spread them before placing' bits1.psp 0 0 0

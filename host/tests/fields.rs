@@ -5,6 +5,10 @@ extern crate psp as library;
 
 #[path = "../src/fields.rs"]
 mod fields;
+// Here only chunks are asked for.
+#[allow(dead_code)]
+#[path = "../src/holder.rs"]
+mod holder;
 
 /// The library with document 01's numbers, under the name that the command's modules use.
 mod psp {
@@ -12,6 +16,7 @@ mod psp {
     pub use library::numbers::*;
 }
 
+use crate::holder::Chunk;
 use crate::psp::Entry;
 use std::fs;
 
@@ -36,14 +41,27 @@ fn compare(beginning: &[u8], entry: &Entry, whole: &[u8]) {
             let shown = psp::image_facts(whole, ROOM).image;
             assert_eq!(format!("{:?}", found), format!("{:?}", shown));
         }
-        4 => {
-            let found = fields::layer(beginning, entry).expect("a layer chunk");
-            let shown = psp::layer_facts(whole, ROOM, entry.layer).layer;
+        4 | 6 | 8 => {
+            let found = fields::holder(beginning, entry).expect("a chunk");
+            let shown = shown(entry, whole);
             assert_eq!(format!("{:?}", found), format!("{:?}", shown));
-            let name = psp::name(whole, ROOM, entry.layer).bytes;
-            assert_eq!(fields::name(&found), name);
+            let name = match entry.id {
+                4 => Some(psp::name(whole, ROOM, entry.layer).bytes),
+                8 => Some(psp::alpha_name(whole, ROOM, entry.layer).bytes),
+                _ => None,
+            };
+            assert_eq!(found.name(), name);
         }
         _ => {}
+    }
+}
+
+/// What the views show of a layer, a selection or an alpha channel.
+fn shown(entry: &Entry, whole: &[u8]) -> Chunk {
+    match entry.id {
+        4 => Chunk::Layer(psp::layer_facts(whole, ROOM, entry.layer).layer),
+        6 => Chunk::Selection(psp::selection_facts(whole, ROOM).selection),
+        _ => Chunk::Alpha(psp::alpha_facts(whole, ROOM, entry.layer).alpha),
     }
 }
 
@@ -60,13 +78,16 @@ fn samples() -> Vec<Vec<u8>> {
 fn every_accepted_sample_has_the_fields_that_the_views_show() {
     let samples = samples();
     assert!(samples.len() >= 8, "{} samples", samples.len());
+    let mut seen = [0; 9];
     for whole in &samples {
         let (_, entries) = listed(whole);
         assert!(entries.iter().any(|entry| entry.id == 4));
-        entries
-            .iter()
-            .for_each(|entry| compare(whole, entry, whole));
+        for entry in &entries {
+            compare(whole, entry, whole);
+            seen[entry.id as usize] += 1;
+        }
     }
+    assert!(seen[6] >= 2 && seen[8] >= 4, "{:?}", seen);
 }
 
 #[test]

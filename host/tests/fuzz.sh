@@ -28,7 +28,7 @@ damage() {
 
 run=0
 while [ $run -lt 300 ]; do
-  case $((run % 7)) in
+  case $((run % 9)) in
   0) cp mug.psp fuzz.psp ;;
   1) cp bits4.psp fuzz.psp ;;
   2) cp skips.psp fuzz.psp ;;
@@ -36,6 +36,8 @@ while [ $run -lt 300 ]; do
   4) cp palette.psp fuzz.psp ;;
   5) cp mug-unpadded.psp fuzz.psp ;;
   6) cp rows1-unpadded.psp fuzz.psp ;;
+  7) cp alphas.psp fuzz.psp ;;
+  8) cp early.psp fuzz.psp ;;
   esac
   damage
   [ $((run % 3)) -ne 0 ] || damage
@@ -46,13 +48,15 @@ while [ $run -lt 300 ]; do
   ! grep -q 'a field here' said || bad "fuzz $run: a field without a name"
   "$reference" list < fuzz.psp > expected
   cmp -s listed expected || bad "fuzz $run: the listing is not the independent one's"
-  case $((run % 6)) in
+  case $((run % 8)) in
   0) set -- layers fuzz.psp ;;
   1) set -- facts fuzz.psp ;;
-  2) set -- palette fuzz.psp ;;
-  3) set -- plane fuzz.psp 0 0 $((run % 4)) -o fuzz.pgm ;;
-  4) set -- compare fuzz.psp true.csv ;;
-  5)
+  2) set -- alphas fuzz.psp ;;
+  3) set -- palette fuzz.psp ;;
+  4) set -- plane fuzz.psp 0 0 $((run / 8 % 4)) -o fuzz.pgm ;;
+  5) set -- plane fuzz.psp alpha 0 -o fuzz.pgm ;;
+  6) set -- compare fuzz.psp true.csv ;;
+  7)
     # Without its first words it is taken for a table.
     tail -c +33 fuzz.psp > fuzz.csv
     set -- compare mug.psp fuzz.csv
@@ -60,9 +64,9 @@ while [ $run -lt 300 ]; do
   esac
   "$psp" "$@" > printed 2> said
   ends_well "fuzz $run: $1" $?
-  # What layers and facts show of a refused file says so first.
-  case $listing-$((run % 6))-$(head -n 1 printed) in
-  1-[01]- | 1-[01]-refused:* | [02]-* | 1-[2-5]-*) good ;;
+  # What layers, facts and alphas show of a refused file says so first.
+  case $listing-$((run % 8))-$(head -n 1 printed) in
+  1-[012]- | 1-[012]-refused:* | [02]-* | 1-[3-7]-*) good ;;
   *) bad "fuzz $run: $1 of a refused file" ;;
   esac
   run=$((run + 1))

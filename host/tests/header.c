@@ -1,6 +1,6 @@
 /* The header against the archive, in C and in C++: header FILE, document 01's file of 521 bytes. Their versions agree, their entries too,
- * a wrong field has its own place, and every function takes a null pointer where the length is 0: its answer is the one that a buffer of
- * length 0 gets. */
+ * a wrong field has its own place, a selection and alpha channels have their fields, and every function takes a null pointer where the
+ * length is 0: its answer is the one that a buffer of length 0 gets. */
 #include <psp.h>
 #include <stdio.h>
 #include <string.h>
@@ -107,12 +107,74 @@ static void views(const uint8_t *file, size_t length) {
   static const uint8_t ramp[1024] = {0};
   psp_image_facts image = psp_read_image_facts(NULL, 0, SIZE_MAX);
   psp_layer_facts layer = psp_read_layer_facts(NULL, 0, SIZE_MAX, 0);
+  psp_selection_facts selection = psp_read_selection_facts(NULL, 0, SIZE_MAX);
+  psp_alpha_facts alpha = psp_read_alpha_facts(NULL, 0, SIZE_MAX, 0);
   hold(image.number == PSP_ENDS_TOO_SOON && image.image.width == 0, "psp_read_image_facts: no input");
   hold(layer.number == PSP_ENDS_TOO_SOON && layer.layer.name[0] == 0, "psp_read_layer_facts: no input");
+  hold(selection.number == PSP_ENDS_TOO_SOON && selection.selection.bitmaps == 0, "psp_read_selection_facts: no input");
+  hold(alpha.number == PSP_ENDS_TOO_SOON && alpha.alpha.name[0] == 0, "psp_read_alpha_facts: no input");
   hold(is_part(psp_palette(NULL, 0, SIZE_MAX, ramp, 1024), PSP_ENDS_TOO_SOON), "psp_palette: no input");
   hold(is_part(psp_palette(file, length, SIZE_MAX, NULL, 0), PSP_NO_RAMP), "psp_palette: no ramp");
   hold(is_part(psp_palette(NULL, 0, SIZE_MAX, NULL, 0), PSP_ENDS_TOO_SOON), "psp_palette: neither");
   hold(is_part(psp_name(NULL, 0, SIZE_MAX, 0), PSP_ENDS_TOO_SOON), "psp_name: no input");
+  hold(is_part(psp_alpha_name(NULL, 0, SIZE_MAX, 0), PSP_ENDS_TOO_SOON), "psp_alpha_name: no input");
+}
+
+/* Writes a block's header at a place, and gives the place behind it. */
+static size_t block(uint8_t *file, size_t at, uint8_t id, uint32_t initial, uint32_t total) {
+  uint8_t header[14] = {'~', 'B', 'K', 0, id};
+  header[6] = (uint8_t)initial;
+  header[7] = (uint8_t)(initial >> 8);
+  header[10] = (uint8_t)total;
+  header[11] = (uint8_t)(total >> 8);
+  memcpy(file + at, header, sizeof header);
+  return at + sizeof header;
+}
+
+/* Likewise rectangles of one pixel, counts and a channel: a selection's, and an alpha channel's behind its name. */
+static size_t area(uint8_t *file, size_t at, uint8_t bitmap) {
+  const uint8_t corners[16] = {0, 0, 0, 0, 0, 0, 0, 0, 1, 0, 0, 0, 1, 0, 0, 0};
+  const uint8_t counts[4] = {1, 0, 1, 0};
+  const uint8_t channel[13] = {1, 0, 0, 0, 1, 0, 0, 0, bitmap, 0, 0, 0, 9};
+  memcpy(file + at, corners, sizeof corners);
+  memcpy(file + at + 16, corners, sizeof corners);
+  memcpy(file + at + 32, counts, sizeof counts);
+  at = block(file, at + 36, 5, 12, 13);
+  memcpy(file + at, channel, sizeof channel);
+  return at + sizeof channel;
+}
+
+/* Fields stand where the library writes them, and what is not there has a number of its own. */
+static void masks(const uint8_t *file, size_t length) {
+  static uint8_t whole[2048];
+  psp_selection_facts selection = psp_read_selection_facts(file, length, SIZE_MAX);
+  psp_alpha_facts alpha = psp_read_alpha_facts(file, length, SIZE_MAX, 0);
+  psp_part name;
+  size_t at = length, alphas;
+  hold(selection.number == PSP_NO_SELECTION && alpha.number == PSP_NO_ALPHA, "neither selection nor alpha channel");
+  hold(is_part(psp_alpha_name(file, length, SIZE_MAX, 0), PSP_NO_ALPHA), "psp_alpha_name: no alpha channel");
+  memcpy(whole, file, length);
+  at = area(whole, block(whole, at, 6, 36, 63), 3);
+  at = block(whole, at, 7, 2, 2 + 2 * (14 + 319));
+  whole[at] = 2;
+  at += 2;
+  for (alphas = 0; alphas < 2; alphas++) {
+    at = block(whole, at, 8, 292, 319);
+    whole[at] = (uint8_t)('a' + alphas);
+    at = area(whole, at + 256, 4);
+  }
+  hold(is_listed(psp_count(whole, at, SIZE_MAX), PSP_ACCEPTED, at, 11), "a selection and two alpha channels");
+  selection = psp_read_selection_facts(whole, at, SIZE_MAX);
+  hold(selection.number == PSP_ACCEPTED && selection.selection.area.saved.right == 1 && selection.selection.area.border.bottom == 1 &&
+           selection.selection.bitmaps == 1 && selection.selection.channels == 1,
+       "psp_read_selection_facts: the fields");
+  alpha = psp_read_alpha_facts(whole, at, SIZE_MAX, 1);
+  hold(alpha.number == PSP_ACCEPTED && alpha.alpha.name[0] == 'b' && alpha.alpha.area.saved.right == 1 &&
+           alpha.alpha.area.border.bottom == 1 && alpha.alpha.bitmaps == 1 && alpha.alpha.channels == 1,
+       "psp_read_alpha_facts: the fields");
+  name = psp_alpha_name(whole, at, SIZE_MAX, 1);
+  hold(name.number == PSP_ACCEPTED && name.which == 0 && name.length == 1 && whole[name.start] == 'b', "psp_alpha_name: the name");
+  hold(psp_read_alpha_facts(whole, at, SIZE_MAX, 2).number == PSP_NO_ALPHA, "psp_read_alpha_facts: no third");
 }
 
 static void vectors(void) {
@@ -139,6 +201,7 @@ int main(int argc, char **argv) {
   planes(file, sizeof file);
   canvases();
   views(file, sizeof file);
+  masks(file, sizeof file);
   vectors();
   return failed;
 }

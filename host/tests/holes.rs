@@ -19,7 +19,9 @@ use std::time::Duration;
 #[test]
 fn a_file_that_is_filled_is_awaited_at_every_length() {
     let second = Duration::from_secs(1);
-    for name in ["mug", "greys", "bits4", "skips", "palette", "grey521"] {
+    for name in [
+        "mug", "greys", "bits4", "skips", "palette", "grey521", "alphas", "early",
+    ] {
         let whole = fs::read(format!("{}.psp", name)).expect("a sample");
         for length in 0..whole.len() {
             let mut filled = whole[..length].to_vec();

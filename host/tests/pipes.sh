@@ -72,10 +72,10 @@ same "an option in quotes" 'psp: wrong use: no option "--a\xFF"' "$(cat said)"
 
 # On a terminal, which script makes: names in their own bytes stay away from it, and a folder's progress is shown.
 if command -v script > /dev/null; then
-  for file in named steered; do
-    script -qec "'$psp' layers $file.psp --csv" /dev/null < /dev/null > printed
-    same "a name that a terminal obeys, $file: status" 2 $?
-    same "a name that a terminal obeys, $file" \
+  for words in 'layers named.psp' 'layers steered.psp' 'alphas alpha-named.psp'; do
+    script -qec "'$psp' $words --csv" /dev/null < /dev/null > printed
+    same "a name that a terminal obeys, $words: status" 2 $?
+    same "a name that a terminal obeys, $words" \
       "psp: wrong use: a name has bytes that a terminal obeys: write the table to a file" "$(tr -d '\r' < printed)"
   done
   script -qec "'$psp' compare --all good > /dev/null" /dev/null < /dev/null > printed

@@ -2,7 +2,7 @@
 //! folder: their listings agree but for places and lengths, and every plane is placed the same.
 //! Built and run by host/check.
 
-use psp::{Entry, ENTRY_NUMBERS};
+use psp::{Area, Entry, ENTRY_NUMBERS};
 use std::fs;
 
 const ROOM: usize = usize::MAX;
@@ -51,12 +51,22 @@ impl File {
         plane
     }
 
+    /// The rectangles of a channel's plane.
+    fn area(&self, channel: &Entry) -> Area {
+        let (bytes, k) = (&self.bytes, channel.layer);
+        let layer = || psp::layer_facts(bytes, ROOM, k).expect("layer facts");
+        match channel.bitmap {
+            0 | 1 => layer().image,
+            2 => layer().mask,
+            3 => psp::selection_facts(bytes, ROOM).expect("facts").area,
+            _ => psp::alpha_facts(bytes, ROOM, k).expect("facts").area,
+        }
+    }
+
     /// A plane on a grey canvas of the image's size.
     fn canvas(&self, channel: &Entry) -> Vec<u8> {
         let image = psp::image_facts(&self.bytes, ROOM).expect("image facts");
-        let layer = psp::layer_facts(&self.bytes, ROOM, channel.layer).expect("layer facts");
-        let areas = [layer.image, layer.image, layer.mask];
-        let r = areas[channel.bitmap as usize].saved;
+        let r = self.area(channel).saved;
         let [width, height] = [image.width, image.height].map(i32::unsigned_abs);
         let mut canvas = vec![7; (width * height) as usize];
         let plane = self.plane(channel);
@@ -125,6 +135,7 @@ fn every_plane_is_placed_the_same() {
             placed += 1;
         }
     }
-    // Of the mug 33 colours, 6 transparency masks and a user mask.
-    assert_eq!(placed, 42 + 2 + 2 + 3 + 5);
+    // Of the mug 33 colours, 6 transparency masks and a user mask; of the others a selection and an
+    // alpha channel besides those of the layer.
+    assert_eq!(placed, 42 + 4 + 4 + 5 + 7);
 }

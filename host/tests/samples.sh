@@ -2,7 +2,7 @@
 # shellcheck shell=sh disable=SC2154 # variables of host/check
 
 "$reference" selftest > /dev/null || fail "tests/reference fails its own checks"
-for name in grey521 layers11 palette bits1 bits4 greys skips; do
+for name in grey521 layers11 palette bits1 bits4 greys skips alphas early; do
   "$reference" file $name > $name.psp
 done
 "$root/target/host/twins" || fail "host/tests/twins.rs writes nothing"
@@ -53,6 +53,23 @@ damaged quoted grey521 116 'Say "White" '
 # A second bank behind a file that is whole without it.
 cp grey521.psp two-banks.psp
 printf '~BK\000\003\000\000\000\000\000\000\000\000\000' >> two-banks.psp
+
+# A selection and alpha channels that are out of place, not expected, missing or not whole: each refusal that their rules can give.
+cp alphas.psp two-selections.psp
+printf '~BK\000\006\000\044\000\000\000\044\000\000\000' >> two-selections.psp
+damaged in-alpha-bank alphas 699 '\005'
+damaged sel-initial alphas 587 '\043'
+damaged sel-expected alphas 669 '\000'
+damaged sel-missing alphas 651 '\014'
+damaged alpha-expected alphas 693 '\001'
+damaged alpha-bitmap-3 alphas 1023 '\003'
+damaged alpha-missing alphas 693 '\003'
+damaged layer-bitmap-3 alphas 513 '\003'
+head -c 1380 alphas.psp > cut-alpha.psp
+head -c 1280 early.psp > cut-early.psp
+# A packet with count 128 in an alpha channel's plane, and a name that would move a terminal's cursor.
+damaged alpha-count128 early 436 '\200'
+damaged alpha-named alphas 709 '\033[2JCaf\351 \134'
 
 # The largest permitted input, nearly all of it a skipped block.
 cp grey521.psp large.psp

@@ -8,6 +8,7 @@ extern crate psp as library;
 #[path = "../src"]
 mod command {
     pub mod fields;
+    pub mod holder;
     pub mod judged;
     pub mod lines;
     pub mod name;
@@ -25,29 +26,63 @@ mod psp {
 use library::ffi::{ENTRY_NUMBERS, WRONG_FIELD};
 use std::fs;
 
-/// Document 000's names of the fields that are judged.
-const NAMES: [&str; 21] = [
-    "image width",
-    "image height",
-    "resolution metric",
-    "compression type",
-    "bit depth",
-    "plane count",
-    "color count",
-    "greyscale flag",
-    "layer count",
-    "palette entry count",
-    "layer type",
-    "image rectangle",
-    "saved image rectangle",
-    "mask rectangle",
-    "saved mask rectangle",
-    "blend range count",
-    "count of bitmaps",
-    "channel count",
-    "uncompressed channel length",
-    "bitmap type",
-    "channel type",
+/// The fields that are judged: how the words for them begin, and document 000's names.
+const NAMES: [(&str, &[&str]); 5] = [
+    (
+        "image block, ",
+        &[
+            "image width",
+            "image height",
+            "resolution metric",
+            "compression type",
+            "bit depth",
+            "plane count",
+            "color count",
+            "greyscale flag",
+            "layer count",
+        ],
+    ),
+    ("palette block, ", &["palette entry count"]),
+    (
+        "layer ",
+        &[
+            "layer type",
+            "image rectangle",
+            "saved image rectangle",
+            "mask rectangle",
+            "saved mask rectangle",
+            "blend range count",
+            "count of bitmaps",
+            "channel count",
+            "uncompressed channel length",
+            "bitmap type",
+            "channel type",
+        ],
+    ),
+    (
+        "selection, ",
+        &[
+            "selection rectangle",
+            "saved selection rectangle",
+            "selection bitmap count",
+            "channel count",
+            "uncompressed channel length",
+            "bitmap type",
+            "channel type",
+        ],
+    ),
+    (
+        "alpha channel ",
+        &[
+            "alpha channel rectangle",
+            "saved alpha channel rectangle",
+            "alpha channel bitmap count",
+            "channel count",
+            "uncompressed channel length",
+            "bitmap type",
+            "channel type",
+        ],
+    ),
 ];
 
 /// The words for a wrong field, if it is one that an input is refused for.
@@ -63,20 +98,26 @@ fn told(input: &[u8], table: &mut [u32]) -> Option<String> {
 
 #[test]
 fn every_wrong_field_has_its_words() {
-    let mut seen = [false; NAMES.len()];
+    let fields = NAMES
+        .iter()
+        .flat_map(|(block, names)| names.iter().map(move |name| (block, name)));
+    let mut unseen: Vec<_> = fields.collect();
     let mut table = [0; 64 * ENTRY_NUMBERS];
-    for file in ["mug", "greys", "bits4", "skips", "palette", "grey521"] {
+    for file in [
+        "mug", "greys", "bits4", "skips", "palette", "grey521", "alphas", "early",
+    ] {
         let whole = fs::read(format!("{}.psp", file)).expect("a sample");
         for place in 0..whole.len() {
             let mut input = whole.clone();
             for byte in [0, 1, 2, 6, 0x7F, 0x80, 0xFF] {
                 input[place] = byte;
                 let words = told(&input, &mut table).unwrap_or_default();
-                for (name, seen) in NAMES.iter().zip(&mut seen) {
-                    *seen |= words.contains(&format!(", {} ", name));
-                }
+                let is_told = |block: &str, name: &str| {
+                    words.starts_with(block) && words.contains(&format!(", {} ", name))
+                };
+                unseen.retain(|(block, name)| !is_told(block, name));
             }
         }
     }
-    assert_eq!(seen, [true; NAMES.len()]);
+    assert_eq!(unseen, []);
 }

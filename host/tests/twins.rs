@@ -14,7 +14,7 @@ use psp::rectangle::Rectangle;
 use reference::{psp, write};
 use std::fs;
 use std::io;
-use write::{Form, Image, InBank, InLayer, Layer, Picture};
+use write::{Alpha, Area, Form, Image, InAlphaBank, InBank, InLayer, Layer, Picture};
 
 /// No pixel has this byte, so padding that is taken for one shows.
 const PADDING: u8 = 0xEE;
@@ -37,7 +37,8 @@ fn save(depth: u16, name: &str, picture: &Picture) -> io::Result<()> {
 }
 
 /// A picture of 4 by 3 pixels with one layer of 7 by 3 that leaves it on the left, on the right and
-/// below, and a user mask of 5 by 2 that leaves it above and on the right; raw or packed, by its depth.
+/// below, and a user mask of 5 by 2 that leaves it above and on the right; behind it a selection and
+/// an alpha channel, which leave it too; raw or packed, by its depth.
 fn picture(depth: u16, colours: Form, masks: Form) -> Picture {
     let image = Image {
         width: 4,
@@ -54,9 +55,21 @@ fn picture(depth: u16, colours: Form, masks: Form) -> Picture {
     for bitmap in [1, 2] {
         layer = with_plane(layer, &image, masks, [bitmap, 0]);
     }
+    let selection = area(&image, masks, write::SELECTION, Rectangle::new(1, -1, 7, 2));
+    let alpha = area(&image, masks, write::ALPHA, Rectangle::new(-1, 0, 4, 4));
     Picture::new(image)
         .palette(vec![[0; 4], [255; 4]])
         .bank(vec![InBank::Layer(layer)])
+        .selection(selection)
+        .alphas(vec![InAlphaBank::Alpha(Alpha::new("Rows", alpha))])
+}
+
+/// A selection, or what an alpha channel is besides its name.
+fn area(image: &Image, form: Form, bitmap: u16, saved: Rectangle) -> Area {
+    let row = form.row(saved.width() as u64, 8) as u8;
+    let first = [100, 60][usize::from(bitmap == write::ALPHA)];
+    let content = content(image, saved, row, first);
+    Area::new(saved).with_rows(form, bitmap, content)
 }
 
 /// A layer with a plane whose pixels differ from each other and from those of its other planes.
@@ -64,17 +77,21 @@ fn with_plane(layer: Layer, image: &Image, form: Form, [bitmap, channel]: [u16; 
     let saved = layer.saved(bitmap);
     let row = layer.row_length(image, bitmap, form) as u8;
     let first = [0, 160, 200][usize::from(bitmap)] + 40 * channel as u8;
+    layer.with_rows(form, bitmap, channel, content(image, saved, row, first))
+}
+
+/// A plane as it is stored, its pixels counted up from the first one.
+fn content(image: &Image, saved: Rectangle, row: u8, first: u8) -> Vec<u8> {
     let byte = |x: u8, y: u8| match i64::from(x) < saved.width() {
         true => first + 8 * y + x,
         false => PADDING,
     };
     let line = |y| (0..row).map(move |x| byte(x, y));
     let plane: Vec<u8> = (0..saved.height() as u8).flat_map(line).collect();
-    let content = match image.compression {
+    match image.compression {
         0 => plane,
         _ => packed_form(&plane),
-    };
-    layer.with_rows(form, bitmap, channel, content)
+    }
 }
 
 /// A padded picture in which a bitmap's planes say another length.

@@ -55,6 +55,24 @@ wrong channel mug 719 4 '\001' 10 '\004'
 wrong length mug 719 4 '\001'
 wrong twice mug 843 4 '\001' 10 '\001'
 
+# The selection and the alpha channels: a border is told before its saved rectangle, and bitmaps before channels.
+wrong sel-border alphas 595 0 '\007' 24 '\007'
+wrong sel-saved alphas 595 24 '\007'
+wrong sel-bitmaps alphas 595 32 '\002\000\002'
+wrong sel-count alphas 595 34 '\000'
+wrong alp-border alphas 709 256 '\007\000\000\000'
+wrong alp-saved alphas 709 280 '\007'
+wrong alp-bitmaps alphas 709 288 '\000'
+wrong alp-count early 458 290 '\003'
+# Their channels, which have 8 bits at any depth; one has no pixels.
+wrong sel-bitmap alphas 661 8 '\006'
+wrong sel-channel alphas 661 10 '\004'
+wrong sel-length alphas 661 4 '\007'
+wrong alp-bitmap alphas 1015 8 '\006'
+wrong alp-channel early 424 10 '\004'
+wrong alp-length alphas 1015 4 '\014'
+wrong alp-empty early 764 4 '\001'
+
 # Another layer than the first, another channel than the first, and a channel with skipped blocks before it.
 wrong layer-1 mug 1091 256 '\377'
 wrong channel-1 mug 843 4 '\001'

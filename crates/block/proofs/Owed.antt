@@ -15,19 +15,25 @@ use Rattle.walk.proofs.Prefix.{waits-keeps}
 use Rattle.headers.specs.declared.block_header.BlockHeader.{BlockHeader}
 use Rattle.headers.specs.BlockHeader.{blockHeaderSize}
 use Rattle.attributes.specs.ImageAttributes.{imageSize}
-use Rattle.chunk.specs.Heads.{imageHead, paletteHead, layerHead, channelHead}
+use Rattle.chunk.specs.Heads.{imageHead, paletteHead, channelHead}
+use Rattle.attributes.specs.declared.fault.Fault.{Fault}
+use Rattle.chunk.specs.AlphaBankInformation.{alphaBankSize}
+use Rattle.chunk.specs.AlphaInformation.{alphaSize}
 use Rattle.chunk.specs.ColorPalette.{paletteSize}
 use Rattle.chunk.specs.LayerInformation.{layerSize}
+use Rattle.chunk.specs.SelectionInformation.{selectionSize}
 use Rattle.chunk.specs.ChannelInformation.{channelSize}
+use Rattle.memory.specs.declared.parent.Parent.{Parent}
 use Rattle.memory.specs.declared.places.Placing.{Placing}
 use Rattle.memory.specs.declared.places.Placing.the-variants.{Refuse, Enter, Skip}
 use Rattle.memory.specs.declared.state.State.{State}
 use Rattle.memory.specs.Parent.{main, levelOf}
-use Rattle.kinds.specs.Blocks.{imageJudged, paletteJudged, paletteCounted, imageBlock, paletteBlock, bankBlock, skipBlock}
-use Rattle.layers.specs.Layers.{layerJudged, channelJudged, channelSized, channelCoded, layerBlock, channelBlock}
+use Rattle.kinds.specs.Blocks.{nestBlock, imageJudged, paletteJudged, paletteCounted, imageBlock, paletteBlock, bankBlock, skipBlock}
+use Rattle.layers.specs.Layers.{channelJudged, channelSized, channelCoded, layerBlock, channelBlock}
+use Rattle.masks.specs.Masks.{selectionBlock, alphaBankBlock, alphaBlock}
 use Rattle.kinds.proofs.Judging.{permitted-ind, permitted-ind₂}
 use Rattle.block.specs.Step.{kindOf, placedOf, blockAt, stepAt}
-use Rattle.block.proofs.Stepped.{LeafOf, an-image, a-palette, a-channel, a-skip, NestOf, a-bank, a-layer, Stepped, accepted, ended, stopped, named, leafed, nested, stepped}
+use Rattle.block.proofs.Stepped.{LeafOf, an-image, a-palette, a-channel, a-skip, Inside, NestOf, a-bank, a-layer, a-selection, an-alpha-bank, an-alpha, Stepped, accepted, ended, stopped, named, leafed, nested, stepped}
 
 -- ### Each step moves on
 
@@ -50,23 +56,29 @@ module _ (s : List ℕ) (st : State) (at end levels : ℕ) where
       own (blockHeaderSize + i .total) (ap (λ x. x .block .place) (i .entry)) (ap (λ x. x .block .owned) (i .entry)) (omega (arith, i .goes-on)) (omega arith)
       (omega (arith, i .present, i .goes-on)) (omega (arith, i .within, i .goes-on))
 
-  nest-opens : {e : Entry} {inside : ℕ} {q : State} {after : ℕ} → NestOf s st at end levels e inside q after → Opens (length s) at end levels e inside after
-  nest-opens (a-bank i) = record {
+  -- whose inside is entered, by the bytes of its chunk
+  opens :
+      (size : ℕ) {total : ℕ} {e : Entry} {inside after : ℕ} → e .block .place ≡ at → e .block .owned ≡ blockHeaderSize + size → 0 < levels
+      → Inside s st at end levels size total inside after → Opens (length s) at end levels e inside after
+  opens size p o deep i = record {
     owns =
-        own blockHeaderSize (ap (λ x. x .block .place) (i .entry)) (ap (λ x. x .block .owned) (i .entry)) (i .enters) (omega arith)
-        (omega (arith, i .present, i .enters)) (omega (arith, i .within, i .enters));
-    order = omega (arith, i .enters, i .ends);
-    within = omega (arith, i .within, i .ends);
-    deep = omega (arith, i .top);
-  }
-  nest-opens (a-layer i) = record {
-    owns =
-        own layerHead (ap (λ x. x .block .place) (i .entry)) (ap (λ x. x .block .owned) (i .entry)) (i .enters) (omega arith)
-        (omega (arith, i .present, i .enters)) (omega (arith, i .within, i .order, i .enters));
+        own (blockHeaderSize + size) p o (i .enters) (omega arith) (omega (arith, i .present, i .enters))
+        (omega (arith, i .within, i .order, i .enters));
     order = omega (arith, i .order, i .enters, i .ends);
     within = omega (arith, i .within, i .ends);
-    deep = omega (arith, i .in-bank);
+    deep = deep;
   }
+
+  nest-opens : {e : Entry} {inside : ℕ} {q : State} {after : ℕ} → NestOf s st at end levels e inside q after → Opens (length s) at end levels e inside after
+  nest-opens (a-bank i) = opens 0 (ap (λ x. x .block .place) (i .entry)) (ap (λ x. x .block .owned) (i .entry)) (omega (arith, i .top)) (i .opens)
+  nest-opens (a-layer i) =
+      opens layerSize (ap (λ x. x .block .place) (i .entry)) (ap (λ x. x .block .owned) (i .entry)) (omega (arith, i .in-bank)) (i .opens)
+  nest-opens (a-selection i) =
+      opens selectionSize (ap (λ x. x .block .place) (i .entry)) (ap (λ x. x .block .owned) (i .entry)) (omega (arith, i .top)) (i .opens)
+  nest-opens (an-alpha-bank i) =
+      opens alphaBankSize (ap (λ x. x .block .place) (i .entry)) (ap (λ x. x .block .owned) (i .entry)) (omega (arith, i .top)) (i .opens)
+  nest-opens (an-alpha i) =
+      opens alphaSize (ap (λ x. x .block .place) (i .entry)) (ap (λ x. x .block .owned) (i .entry)) (omega (arith, i .in-bank)) (i .opens)
 
   moved : {k : Step State} → Stepped s st at end levels k → Moves (length s) main at end levels k
   moved (accepted top here all) = ends (record { inside = λ z. absurd (omega arith); whole = λ _. here })
@@ -96,12 +108,15 @@ module _ (len levels : ℕ) (s : List ℕ) (st : State) (at level : ℕ) where
       permitted-ind B _ _ _ (λ _ _. refused) (λ _.
       pick-ind B _ _ _ (λ _. unit-ind B s (at + paletteHead) (4 * c .count) _ (λ _. refused) (λ _. leaf-past past)) (λ _. refused))
 
-  layer-past : len < at + layerHead → (total : ℕ) (chunk : _) → B (layerJudged st total at level chunk)
-  layer-past far total c = permitted-ind B _ _ _ (λ _ _. refused) (λ _. nest-past far)
+  nest-block-past :
+      (total size : ℕ) (fault : List ℕ → Fault) (e : Entry) (q : List ℕ → State) → len < at + (blockHeaderSize + size)
+      → B (nestBlock s total at size fault e q)
+  nest-block-past total size fault e q far =
+      unit-ind B s (at + blockHeaderSize) size _ (λ _. refused) (λ _. permitted-ind B _ _ _ (λ _ _. refused) (λ _. nest-past far))
 
-  channel-past : len < at + channelHead → (total : ℕ) (chunk : _) → B (channelJudged s st total at level chunk)
+  channel-past : len < at + channelHead → (parent : Parent) (total : ℕ) (chunk : _) → B (channelJudged s st parent total at level chunk)
   unfolding channelCoded channelSized
-  channel-past far total c =
+  channel-past far parent total c =
       let past : len < at + channelHead + c .stored = omega arith in
       pick-ind B _ _ _
       (λ _. permitted-ind B _ _ _ (λ _ _. refused) (λ _. pick-ind B _ _ _
@@ -117,21 +132,24 @@ module _ (len levels : ℕ) (s : List ℕ) (st : State) (at level : ℕ) where
         let past : len < at + blockHeaderSize + h .total = omega arith in
         unit-ind B s (at + blockHeaderSize) (h .total) _ (λ _. refused) (λ _. leaf-past past)
 
-    kind-past : B (kindOf s st h at level)
-    unfolding kindOf imageBlock paletteBlock bankBlock layerBlock channelBlock
-    kind-past =
+    kind-past : (parent : Parent) → B (kindOf s st parent h at level)
+    unfolding kindOf imageBlock paletteBlock bankBlock layerBlock channelBlock selectionBlock alphaBankBlock alphaBlock
+    kind-past parent =
         let to : (n : ℕ) → len < at + (blockHeaderSize + n) = λ n. omega arith in
         pick-ind B _ _ _ (λ _. unit-ind B s (at + blockHeaderSize) imageSize _ (λ _. refused) (λ _. image-past (to imageSize) _)) (λ _.
         pick-ind B _ _ _ (λ _. unit-ind B s (at + blockHeaderSize) paletteSize _ (λ _. refused) (λ _. palette-past (to paletteSize) (h .total) _)) (λ _.
         pick-ind B _ _ _ (λ _. nest-past far) (λ _.
-        pick-ind B _ _ _ (λ _. unit-ind B s (at + blockHeaderSize) layerSize _ (λ _. refused) (λ _. layer-past (to layerSize) (h .total) _)) (λ _.
-        unit-ind B s (at + blockHeaderSize) channelSize _ (λ _. refused) (λ _. channel-past (to channelSize) (h .total) _)))))
+        pick-ind B _ _ _ (λ _. nest-block-past (h .total) layerSize _ _ _ (to layerSize)) (λ _.
+        pick-ind B _ _ _ (λ _. nest-block-past (h .total) selectionSize _ _ _ (to selectionSize)) (λ _.
+        pick-ind B _ _ _ (λ _. nest-block-past (h .total) alphaBankSize _ _ _ (to alphaBankSize)) (λ _.
+        pick-ind B _ _ _ (λ _. nest-block-past (h .total) alphaSize _ _ _ (to alphaSize)) (λ _.
+        unit-ind B s (at + blockHeaderSize) channelSize _ (λ _. refused) (λ _. channel-past (to channelSize) parent (h .total) _))))))))
 
-    placed-past : (end : ℕ) (a : Placing) → B (placedOf s st h a at end level)
+    placed-past : (parent : Parent) (end : ℕ) (a : Placing) → B (placedOf s st parent h a at end level)
     unfolding placedOf
-    placed-past end Refuse = refused
-    placed-past end Enter = pick-ind B _ _ _ (λ _. refused) (λ _. pick-ind B _ _ _ (λ _. kind-past) (λ _. refused))
-    placed-past end Skip = pick-ind B _ _ _ (λ _. skip-past) (λ _. refused)
+    placed-past parent end Refuse = refused
+    placed-past parent end Enter = pick-ind B _ _ _ (λ _. refused) (λ _. pick-ind B _ _ _ (λ _. kind-past parent) (λ _. refused))
+    placed-past parent end Skip = pick-ind B _ _ _ (λ _. skip-past) (λ _. refused)
 
 module _ (s t : List ℕ) (st : State) (at end levels level : ℕ) where
   abbrev W : Step State → Step State → Type 0
@@ -145,10 +163,10 @@ module _ (s t : List ℕ) (st : State) (at end levels level : ℕ) where
       (λ _. unit-waits main levels s t (at + paletteHead) _ _ _ (λ short _. leaf-past short) (λ _. stays _))
       (λ _. stays _)))
 
-  channel-waits : (total : ℕ) → W (channelBlock s st total at level) (channelBlock (s ++ t) st total at level)
+  channel-waits : (parent : Parent) (total : ℕ) → W (channelBlock s st parent total at level) (channelBlock (s ++ t) st parent total at level)
   unfolding channelBlock channelCoded channelSized
-  channel-waits total =
-      unit-waits main levels s t (at + blockHeaderSize) channelSize _ _ (λ short xs. channel-past (length s) levels (s ++ t) st at level (omega arith) total _) (λ xs.
+  channel-waits parent total =
+      unit-waits main levels s t (at + blockHeaderSize) channelSize _ _ (λ short xs. channel-past (length s) levels (s ++ t) st at level (omega arith) parent total _) (λ xs.
       pick-ind₂ W _ _ _ _ _
       (λ _. permitted-ind₂ W _ _ _ _ (λ _. stays _) (pick-ind₂ W _ _ _ _ _
       (λ _. permitted-ind₂ W _ _ _ _ (λ _. stays _) (unit-waits main levels s t (at + channelHead) _ _ _ (λ short _. leaf-past short) (λ _. stays _)))
@@ -159,28 +177,37 @@ module _ (s t : List ℕ) (st : State) (at end levels level : ℕ) where
   unfolding skipBlock
   skip-waits h = unit-waits main levels s t (at + blockHeaderSize) (h .total) _ _ (λ short _. leaf-past short) (λ _. stays _)
 
-  kind-waits : (h : BlockHeader) → W (kindOf s st h at level) (kindOf (s ++ t) st h at level)
-  unfolding kindOf imageBlock layerBlock
-  kind-waits h =
+  nest-block-waits :
+      (total size : ℕ) (fault : List ℕ → Fault) (e : Entry) (q : List ℕ → State) → W (nestBlock s total at size fault e q) (nestBlock (s ++ t) total at size fault e q)
+  nest-block-waits total size fault e q =
+      unit-waits main levels s t (at + blockHeaderSize) size _ _
+      (λ short xs. let far : length s < at + (blockHeaderSize + size) = omega arith in permitted-ind (Beyond (length s) main levels) _ _ _ (λ _ _. refused) (λ _. nest-past far))
+      (λ _. stays _)
+
+  kind-waits : (parent : Parent) (h : BlockHeader) → W (kindOf s st parent h at level) (kindOf (s ++ t) st parent h at level)
+  unfolding kindOf imageBlock layerBlock selectionBlock alphaBankBlock alphaBlock
+  kind-waits parent h =
       pick-ind₂ W _ _ _ _ _
       (λ _. unit-waits main levels s t (at + blockHeaderSize) imageSize _ _ (λ short xs. image-past (length s) levels s st at level (omega arith) _) (λ _. stays _)) (λ _.
       pick-ind₂ W _ _ _ _ _ (λ _. palette-waits (h .total)) (λ _.
       pick-ind₂ W _ _ _ _ _ (λ _. stays _) (λ _.
-      pick-ind₂ W _ _ _ _ _
-      (λ _. unit-waits main levels s t (at + blockHeaderSize) layerSize _ _ (λ short xs. layer-past (length s) levels s st at level (omega arith) (h .total) _) (λ _. stays _)) (λ _.
-      channel-waits (h .total)))))
+      pick-ind₂ W _ _ _ _ _ (λ _. nest-block-waits (h .total) layerSize _ _ _) (λ _.
+      pick-ind₂ W _ _ _ _ _ (λ _. nest-block-waits (h .total) selectionSize _ _ _) (λ _.
+      pick-ind₂ W _ _ _ _ _ (λ _. nest-block-waits (h .total) alphaBankSize _ _ _) (λ _.
+      pick-ind₂ W _ _ _ _ _ (λ _. nest-block-waits (h .total) alphaSize _ _ _) (λ _.
+      channel-waits parent (h .total))))))))
 
-  placed-waits : (h : BlockHeader) (a : Placing) → W (placedOf s st h a at end level) (placedOf (s ++ t) st h a at end level)
+  placed-waits : (parent : Parent) (h : BlockHeader) (a : Placing) → W (placedOf s st parent h a at end level) (placedOf (s ++ t) st parent h a at end level)
   unfolding placedOf
-  placed-waits h Refuse = stays _
-  placed-waits h Enter = pick-ind₂ W _ _ _ _ _ (λ _. stays _) (λ _. pick-ind₂ W _ _ _ _ _ (λ _. kind-waits h) (λ _. stays _))
-  placed-waits h Skip = pick-ind₂ W _ _ _ _ _ (λ _. skip-waits h) (λ _. stays _)
+  placed-waits parent h Refuse = stays _
+  placed-waits parent h Enter = pick-ind₂ W _ _ _ _ _ (λ _. stays _) (λ _. pick-ind₂ W _ _ _ _ _ (λ _. kind-waits parent h) (λ _. stays _))
+  placed-waits parent h Skip = pick-ind₂ W _ _ _ _ _ (λ _. skip-waits h) (λ _. stays _)
 
 block-past : (len : ℕ) (s : List ℕ) (st : State) (at end levels : ℕ) → len < at + blockHeaderSize → Beyond len main levels (blockAt s st at end levels)
 unfolding blockAt
 block-past len s st at end levels far =
     let B = Beyond len main levels in
-    unit-ind B s at blockHeaderSize _ (λ _. refused) (λ _. pick-ind B _ _ _ (λ _. placed-past len levels s st at (levelOf levels) far _ end _) (λ _. refused))
+    unit-ind B s at blockHeaderSize _ (λ _. refused) (λ _. pick-ind B _ _ _ (λ _. placed-past len levels s st at (levelOf levels) far _ _ end _) (λ _. refused))
 
 -- a step k on more input, which is the block there where the header was present already
 block-waits :
@@ -189,7 +216,7 @@ block-waits :
 unfolding blockAt
 block-waits s t st at end levels k past is =
     unit-waits-to main levels s t at blockHeaderSize _ _ k past
-    (λ xs. pick-ind₂ (Waits (length s) main levels) _ _ _ _ _ (λ _. placed-waits s t st at end levels (levelOf levels) _ _) (λ _. stays _)) is
+    (λ xs. pick-ind₂ (Waits (length s) main levels) _ _ _ _ _ (λ _. placed-waits s t st at end levels (levelOf levels) _ _ _) (λ _. stays _)) is
 
 waiting : (s t : List ℕ) → WaitsOn main (length s) (stepAt s) (stepAt (s ++ t))
 unfolding stepAt

@@ -1,14 +1,14 @@
 -- What one look finds, with all that was tested on the way: the one analysis of the rules that the promises stand on.
-use mathlib.Core.Path.{_≡_, refl, sym, ap, subst⁻¹, _∙_}
+use mathlib.Core.Path.{_≡_, refl, sym, ap, subst, subst⁻¹, _∙_}
 use mathlib.Core.Bool.{true, false}
 use mathlib.Core.List.{List}
 use Prim.Native.Nat.{ℕ, _+_, _*_, _≤_, _<_}
 use native.Mathlib.Omega.{arith}
-use borrow.Author.Tests.{eqb-true, eqb-false, eq-eqb, ne-eqb, leb-true}
+use borrow.Author.Tests.{eqb-true, eqb-false, leb-true}
 use lib.Dec.{eqb}
 use lib.ListN.{length}
 use Rattle.laws.specs.Lists.{part}
-use Rattle.laws.proofs.Choice.{pick-yes, pick-no, pick-ind}
+use Rattle.laws.proofs.Choice.{pick-ind}
 use Rattle.laws.proofs.Tests.{both}
 use Rattle.rect.specs.Rows.{sizeOf}
 use Rattle.answer.specs.declared.Refusal.{Refusal}
@@ -20,27 +20,34 @@ use Rattle.walk.specs.Walk.{Step, End, Stop, Leaf, Nest}
 use Rattle.walk.proofs.Unit.{unit-ind}
 use Rattle.headers.specs.declared.block_header.BlockHeader.{BlockHeader}
 use Rattle.headers.specs.BlockHeader.{blockHeaderSize, blockHeaderOf, blockHeaderAt}
+use Rattle.attributes.specs.declared.fault.Fault.{Fault}
 use Rattle.attributes.specs.declared.fault.Fault.the-variants.{None, At}
 use Rattle.attributes.specs.ImageAttributes.{imageSize, imageAt, imageFault}
 use Rattle.chunk.specs.declared.channel_information.ChannelChunk.{ChannelChunk}
-use Rattle.chunk.specs.Heads.{imageHead, paletteHead, layerHead, channelHead}
+use Rattle.chunk.specs.AlphaBankInformation.{alphaBankSize, alphaBankAt}
+use Rattle.chunk.specs.AlphaInformation.{alphaSize, alphaAt, alphaFault}
+use Rattle.chunk.specs.Heads.{imageHead, paletteHead, layerHead, channelHead, selectionHead, alphaBankHead, alphaHead}
 use Rattle.chunk.specs.ColorPalette.{paletteSize, paletteAt, paletteFault}
 use Rattle.chunk.specs.LayerInformation.{layerSize, layerAt, layerFault}
 use Rattle.chunk.specs.ChannelInformation.{channelSize, channelAt, codesFault, planeFault}
+use Rattle.chunk.specs.SelectionInformation.{selectionSize, selectionAt, selectionFault}
+use Rattle.memory.specs.declared.parent.Open.the-variants.{Layers, Alphas}
 use Rattle.memory.specs.declared.parent.Parent.{Parent}
 use Rattle.memory.specs.declared.places.Placing.{Placing}
 use Rattle.memory.specs.declared.places.Placing.the-variants.{Refuse, Enter, Skip}
 use Rattle.memory.specs.declared.state.State.{State}
-use Rattle.memory.specs.Parent.{main, levelOf, parentAt}
-use Rattle.memory.specs.State.{withImage, withPalette, withBank, withLayer, withChannel, shapeFor, isSurplus, isFull}
-use Rattle.memory.proofs.Parents.{Held, by-main, by-bank, by-layer, held}
-use Rattle.memory.proofs.Placed.{Begun, Placed, refused, image, palette, bank, layer, channel, skip, placed}
-use Rattle.kinds.specs.Blocks.{imageBlock, paletteCounted, paletteBlock, bankBlock, skippedBy, skipBlock}
+use Rattle.memory.specs.Parent.{main, levelOf, parentAt, isHost}
+use Rattle.memory.specs.State.{withImage, withPalette, withBank, withLayer, withChannel, withSelection, withAlphaBank, withAlpha, shapeFor, isSurplus, isFull}
+use Rattle.memory.proofs.Parents.{Held, by-main, by-bank, by-alpha-bank, held}
+use Rattle.memory.proofs.Placed.{Begun, Placed, refused, image, palette, bank, layer, channel, selection, alpha-bank, alpha, skip, placed}
+use Rattle.kinds.specs.Blocks.{nestBlock, imageBlock, paletteCounted, paletteBlock, bankBlock, skippedBy, skipBlock}
 use Rattle.layers.specs.Layers.{channelEntry, isAwaited, layerBlock, channelSized, channelCoded, channelBlock}
+use Rattle.masks.specs.Masks.{selectionBlock, alphaBankBlock, alphaBlock}
 use Rattle.kinds.specs.Headed.{Chunked}
 use Rattle.kinds.proofs.Judging.{permitted-ind}
 use Rattle.block.specs.Step.{areLengths, isInside, kindOf, placedOf, blockAt, stepAt}
-use Rattle.block.proofs.Passed.{image-total, layer-total, layer-room, channel-room}
+use Rattle.block.proofs.Passed.{image-total, layer-total, selection-total, alpha-bank-total, alpha-total, layer-room, alpha-room, channel-room}
+use Rattle.block.proofs.Passed as ids
 
 module _ (s : List ℕ) (st : State) (at end levels : ℕ) where
   abbrev level : ℕ
@@ -48,6 +55,10 @@ module _ (s : List ℕ) (st : State) (at end levels : ℕ) where
 
   abbrev chunkPlace : ℕ
   chunkPlace = at + blockHeaderSize
+
+  -- what holds the place
+  abbrev parent : Parent
+  parent = parentAt (st .opened) levels
 
   -- ### Entries without an inside
 
@@ -67,7 +78,7 @@ module _ (s : List ℕ) (st : State) (at end levels : ℕ) where
     pub permitted-all : paletteFault (st .image .depth) (paletteAt s chunkPlace) ≡ None
     pub begun : Begun st
     pub top : levels ≡ main
-    pub once : st .palette ≡ false
+    pub once : st .met .palette ≡ false
     pub used : st .image .depth ≡ 24 → ⊥
     pub present : at + paletteHead + 4 * count ≤ length s
     pub within : at + paletteHead + 4 * count ≤ end
@@ -79,14 +90,14 @@ module _ (s : List ℕ) (st : State) (at end levels : ℕ) where
     pub chunk : ChannelChunk
     pub is : chunk ≡ channelAt s chunkPlace
     pub begun : Begun st
-    pub deepest : levels ≡ 0
-    pub room : 0 < st .layer .left
-    pub awaited : isAwaited st chunk ≡ true
-    pub plane : planeFault (shapeFor (st .layer) (st .image .depth) (chunk .bitmap)) chunk ≡ None
+    pub host : isHost parent ≡ true
+    pub room : 0 < st .current .left
+    pub awaited : isAwaited st parent chunk ≡ true
+    pub plane : planeFault (shapeFor (st .current) (st .image .depth) (chunk .bitmap)) chunk ≡ None
     pub present : at + channelHead + chunk .stored ≤ length s
     pub within : at + channelHead + chunk .stored ≤ end
     pub entry :
-        e ≡ channelEntry level at (st .layer .number) chunk (sizeOf (shapeFor (st .layer) (st .image .depth) (chunk .bitmap)) (chunk .plane))
+        e ≡ channelEntry level at (st .current .number) chunk (sizeOf (shapeFor (st .current) (st .image .depth) (chunk .bitmap)) (chunk .plane))
     pub goes-on : next ≡ at + channelHead + chunk .stored
     pub state : q ≡ withChannel chunk st
 
@@ -109,35 +120,70 @@ module _ (s : List ℕ) (st : State) (at end levels : ℕ) where
 
   -- ### Entries whose inside is entered
 
+  -- an inside, behind the header and a chunk of so many bytes, up to the end that the total tells
+  pub record Inside (size total inside after : ℕ) : Type 0 where
+    pub present : at + (blockHeaderSize + size) ≤ length s
+    pub order : at + (blockHeaderSize + size) ≤ at + blockHeaderSize + total
+    pub within : at + blockHeaderSize + total ≤ end
+    pub enters : inside ≡ at + (blockHeaderSize + size)
+    pub ends : after ≡ at + blockHeaderSize + total
+
   pub record IsBank (e : Entry) (inside : ℕ) (q : State) (after : ℕ) : Type 0 where
     pub total : ℕ
+    pub opens : Inside 0 total inside after
     pub begun : Begun st
     pub top : levels ≡ main
-    pub once : st .bank ≡ false
-    pub present : at + blockHeaderSize ≤ length s
-    pub within : at + blockHeaderSize + total ≤ end
+    pub once : st .met .bank ≡ false
     pub entry : e ≡ plain (block 3 0 level at blockHeaderSize)
-    pub enters : inside ≡ at + blockHeaderSize
     pub state : q ≡ withBank st
-    pub ends : after ≡ at + blockHeaderSize + total
 
   pub record IsLayer (e : Entry) (inside : ℕ) (q : State) (after : ℕ) : Type 0 where
     pub total : ℕ
+    pub opens : Inside layerSize total inside after
     pub permitted-all : layerFault (st .image .depth) (layerAt s chunkPlace) ≡ None
     pub begun : Begun st
     pub in-bank : levels ≡ 1
-    pub room : st .found < st .image .layers
-    pub present : at + layerHead ≤ length s
-    pub order : at + layerHead ≤ at + blockHeaderSize + total
-    pub within : at + blockHeaderSize + total ≤ end
-    pub entry : e ≡ ranked (block 4 0 level at layerHead) (st .found)
-    pub enters : inside ≡ at + layerHead
+    pub of-layers : st .opened ≡ Layers
+    pub room : st .members .found < st .members .announced
+    pub entry : e ≡ ranked (block 4 0 level at layerHead) (st .members .found)
     pub state : q ≡ withLayer (layerAt s chunkPlace) st
-    pub ends : after ≡ at + blockHeaderSize + total
+
+  pub record IsSelection (e : Entry) (inside : ℕ) (q : State) (after : ℕ) : Type 0 where
+    pub total : ℕ
+    pub opens : Inside selectionSize total inside after
+    pub permitted-all : selectionFault (selectionAt s chunkPlace) ≡ None
+    pub begun : Begun st
+    pub top : levels ≡ main
+    pub once : st .met .selection ≡ false
+    pub entry : e ≡ plain (block 6 0 level at selectionHead)
+    pub state : q ≡ withSelection (selectionAt s chunkPlace) st
+
+  pub record IsAlphaBank (e : Entry) (inside : ℕ) (q : State) (after : ℕ) : Type 0 where
+    pub total : ℕ
+    pub opens : Inside alphaBankSize total inside after
+    pub begun : Begun st
+    pub top : levels ≡ main
+    pub once : st .met .alphas ≡ false
+    pub entry : e ≡ plain (block 7 0 level at alphaBankHead)
+    pub state : q ≡ withAlphaBank (alphaBankAt s chunkPlace) st
+
+  pub record IsAlpha (e : Entry) (inside : ℕ) (q : State) (after : ℕ) : Type 0 where
+    pub total : ℕ
+    pub opens : Inside alphaSize total inside after
+    pub permitted-all : alphaFault (alphaAt s chunkPlace) ≡ None
+    pub begun : Begun st
+    pub in-bank : levels ≡ 1
+    pub of-alphas : st .opened ≡ Alphas
+    pub room : st .members .found < st .members .announced
+    pub entry : e ≡ ranked (block 8 0 level at alphaHead) (st .members .found)
+    pub state : q ≡ withAlpha (alphaAt s chunkPlace) st
 
   pub data NestOf (e : Entry) (inside : ℕ) (q : State) (after : ℕ) : Type 0 where
     a-bank : IsBank e inside q after → NestOf e inside q after
     a-layer : IsLayer e inside q after → NestOf e inside q after
+    a-selection : IsSelection e inside q after → NestOf e inside q after
+    an-alpha-bank : IsAlphaBank e inside q after → NestOf e inside q after
+    an-alpha : IsAlpha e inside q after → NestOf e inside q after
 
   -- ### A field that is not permitted
 
@@ -147,11 +193,17 @@ module _ (s : List ℕ) (st : State) (at end levels : ℕ) where
     a-palette's :
         Chunked s at 2 paletteSize → Begun st → (st .image .depth ≡ 24 → ⊥) → paletteFault (st .image .depth) (paletteAt s chunkPlace) ≡ At offset
         → FaultOf offset
-    a-layer's : Chunked s at 4 layerSize → Begun st → levels ≡ 1 → layerFault (st .image .depth) (layerAt s chunkPlace) ≡ At offset → FaultOf offset
-    a-code's : Chunked s at 5 channelSize → Begun st → levels ≡ 0 → codesFault (channelAt s chunkPlace) ≡ At offset → FaultOf offset
+    a-layer's :
+        Chunked s at 4 layerSize → Begun st → levels ≡ 1 → st .opened ≡ Layers → layerFault (st .image .depth) (layerAt s chunkPlace) ≡ At offset
+        → FaultOf offset
+    a-code's : Chunked s at 5 channelSize → Begun st → isHost parent ≡ true → codesFault (channelAt s chunkPlace) ≡ At offset → FaultOf offset
     a-plane's :
-        Chunked s at 5 channelSize → Begun st → levels ≡ 0 → codesFault (channelAt s chunkPlace) ≡ None → isAwaited st (channelAt s chunkPlace) ≡ true
-        → planeFault (shapeFor (st .layer) (st .image .depth) (channelAt s chunkPlace .bitmap)) (channelAt s chunkPlace) ≡ At offset → FaultOf offset
+        Chunked s at 5 channelSize → Begun st → isHost parent ≡ true → 0 < st .current .left → codesFault (channelAt s chunkPlace) ≡ None
+        → isAwaited st parent (channelAt s chunkPlace) ≡ true
+        → planeFault (shapeFor (st .current) (st .image .depth) (channelAt s chunkPlace .bitmap)) (channelAt s chunkPlace) ≡ At offset → FaultOf offset
+    a-selection's : Chunked s at 6 selectionSize → Begun st → levels ≡ main → selectionFault (selectionAt s chunkPlace) ≡ At offset → FaultOf offset
+    an-alpha's :
+        Chunked s at 8 alphaSize → Begun st → levels ≡ 1 → st .opened ≡ Alphas → alphaFault (alphaAt s chunkPlace) ≡ At offset → FaultOf offset
 
   -- ### The step
 
@@ -162,8 +214,8 @@ module _ (s : List ℕ) (st : State) (at end levels : ℕ) where
 
   -- the end of the input, or of the parent; a refusal here or further on, 8 at a field; an entry
   pub data Stepped : Step State → Type 0 where
-    accepted : levels ≡ main → at ≡ length s → isFull st (parentAt levels) ≡ true → Stepped End
-    ended : (levels ≡ main → ⊥) → at ≡ end → isFull st (parentAt levels) ≡ true → Stepped End
+    accepted : levels ≡ main → at ≡ length s → isFull st parent ≡ true → Stepped End
+    ended : (levels ≡ main → ⊥) → at ≡ end → isFull st parent ≡ true → Stepped End
     stopped : {r : Refusal} {p : ℕ} → at ≤ p → eqb (refusalNumber r) 8 ≡ false → Stepped (Stop r p)
     named : {offset : ℕ} → FaultOf offset → Stepped (Stop WrongField (chunkPlace + offset))
     leafed : {e : Entry} {next : ℕ} {q : State} → OfHeader e → LeafOf e next q → Stepped (Leaf e next q)
@@ -218,7 +270,7 @@ module _ (s : List ℕ) (st : State) (at end levels : ℕ) where
         })))))
 
     palette-stepped :
-        h .id ≡ 2 → Begun st → levels ≡ main → st .palette ≡ false → (st .image .depth ≡ 24 → ⊥) → Stepped (paletteBlock s st (h .total) at level)
+        h .id ≡ 2 → Begun st → levels ≡ main → st .met .palette ≡ false → (st .image .depth ≡ 24 → ⊥) → Stepped (paletteBlock s st (h .total) at level)
     unfolding paletteBlock paletteCounted
     palette-stepped id begun top once used =
         unit-ind Stepped s chunkPlace paletteSize _ (λ _. further blockHeaderSize refl) (λ there.
@@ -242,57 +294,113 @@ module _ (s : List ℕ) (st : State) (at end levels : ℕ) where
         }))))
         (λ _. here refl)))
 
-    bank-stepped : h .id ≡ 3 → Begun st → levels ≡ main → st .bank ≡ false → Stepped (bankBlock st (h .total) at level)
+    bank-stepped : h .id ≡ 3 → Begun st → levels ≡ main → st .met .bank ≡ false → Stepped (bankBlock st (h .total) at level)
     unfolding bankBlock
     bank-stepped id begun top once =
         nested (entered id refl) (a-bank (record {
           total = h .total;
+          opens = record { present = header; order = omega arith; within = fits; enters = refl; ends = refl };
           begun = begun;
           top = top;
           once = once;
-          present = header;
-          within = fits;
           entry = refl;
-          enters = refl;
           state = refl;
-          ends = refl;
         }))
 
-    layer-stepped : h .id ≡ 4 → Begun st → levels ≡ 1 → st .found < st .image .layers → layerSize ≤ h .total → Stepped (layerBlock s st (h .total) at level)
+    -- a block that is entered behind its chunk, by what a fault and what its absence makes of it
+    nest-stepped :
+        (id size : ℕ) (fault : List ℕ → Fault) (e : Entry) (q : List ℕ → State) → h .id ≡ id → size ≤ h .total → OfHeader e
+        → ((offset : ℕ) → Chunked s at id size → fault (part s chunkPlace size) ≡ At offset → FaultOf offset)
+        → (Inside size (h .total) (at + (blockHeaderSize + size)) (chunkPlace + h .total) → fault (part s chunkPlace size) ≡ None
+        → NestOf e (at + (blockHeaderSize + size)) (q (part s chunkPlace size)) (chunkPlace + h .total))
+        → Stepped (nestBlock s (h .total) at size fault e q)
+    nest-stepped id size fault e q is long of bad good =
+        unit-ind Stepped s chunkPlace size _ (λ _. further blockHeaderSize refl) (λ there.
+        permitted-ind Stepped _ _ _ (λ offset wrong. named (bad offset (chunked is there) wrong)) (λ none.
+        nested of (good (record { present = omega arith; order = omega arith; within = fits; enters = refl; ends = refl }) none)))
+
+    layer-stepped :
+        h .id ≡ 4 → Begun st → levels ≡ 1 → st .opened ≡ Layers → st .members .found < st .members .announced → layerSize ≤ h .total
+        → Stepped (layerBlock s st (h .total) at level)
     unfolding layerBlock
-    layer-stepped id begun in-bank room long =
-        unit-ind Stepped s chunkPlace layerSize _ (λ _. further blockHeaderSize refl) (λ there.
-        permitted-ind Stepped _ _ _ (λ _ bad. named (a-layer's (chunked id there) begun in-bank bad)) (λ good.
-        nested (entered id refl) (a-layer (record {
+    layer-stepped id begun in-bank of-layers room long =
+        nest-stepped 4 layerSize _ _ _ id long (entered id refl) (λ _ j bad. a-layer's j begun in-bank of-layers bad) (λ opens good.
+        a-layer (record {
           total = h .total;
+          opens = opens;
           permitted-all = good;
           begun = begun;
           in-bank = in-bank;
+          of-layers = of-layers;
           room = room;
-          present = omega arith;
-          order = omega arith;
-          within = fits;
           entry = refl;
-          enters = refl;
           state = refl;
-          ends = refl;
-        }))))
+        }))
 
-    channel-stepped : h .id ≡ 5 → Begun st → levels ≡ 0 → 0 < st .layer .left → Stepped (channelBlock s st (h .total) at level)
+    selection-stepped :
+        h .id ≡ 6 → Begun st → levels ≡ main → st .met .selection ≡ false → selectionSize ≤ h .total → Stepped (selectionBlock s st (h .total) at level)
+    unfolding selectionBlock
+    selection-stepped id begun top once long =
+        nest-stepped 6 selectionSize _ _ _ id long (entered id refl) (λ _ j bad. a-selection's j begun top bad) (λ opens good.
+        a-selection (record {
+          total = h .total;
+          opens = opens;
+          permitted-all = good;
+          begun = begun;
+          top = top;
+          once = once;
+          entry = refl;
+          state = refl;
+        }))
+
+    alpha-bank-stepped :
+        h .id ≡ 7 → Begun st → levels ≡ main → st .met .alphas ≡ false → alphaBankSize ≤ h .total → Stepped (alphaBankBlock s st (h .total) at level)
+    unfolding alphaBankBlock
+    alpha-bank-stepped id begun top once long =
+        nest-stepped 7 alphaBankSize _ _ _ id long (entered id refl) (λ _ j bad. let z : _≡_ {A = ℕ} 0 1 = cc in absurd (omega arith)) (λ opens _.
+        an-alpha-bank (record {
+          total = h .total;
+          opens = opens;
+          begun = begun;
+          top = top;
+          once = once;
+          entry = refl;
+          state = refl;
+        }))
+
+    alpha-stepped :
+        h .id ≡ 8 → Begun st → levels ≡ 1 → st .opened ≡ Alphas → st .members .found < st .members .announced → alphaSize ≤ h .total
+        → Stepped (alphaBlock s st (h .total) at level)
+    unfolding alphaBlock
+    alpha-stepped id begun in-bank of-alphas room long =
+        nest-stepped 8 alphaSize _ _ _ id long (entered id refl) (λ _ j bad. an-alpha's j begun in-bank of-alphas bad) (λ opens good.
+        an-alpha (record {
+          total = h .total;
+          opens = opens;
+          permitted-all = good;
+          begun = begun;
+          in-bank = in-bank;
+          of-alphas = of-alphas;
+          room = room;
+          entry = refl;
+          state = refl;
+        }))
+
+    channel-stepped : h .id ≡ 5 → Begun st → isHost parent ≡ true → 0 < st .current .left → Stepped (channelBlock s st parent (h .total) at level)
     unfolding channelBlock channelCoded channelSized
-    channel-stepped id begun deepest room =
+    channel-stepped id begun host room =
         unit-ind Stepped s chunkPlace channelSize _ (λ _. further blockHeaderSize refl) (λ there.
         let c = channelAt s chunkPlace in
         pick-ind Stepped _ _ _ (λ whole.
-        permitted-ind Stepped _ _ _ (λ _ bad. named (a-code's (chunked id there) begun deepest bad)) (λ codes.
+        permitted-ind Stepped _ _ _ (λ _ bad. named (a-code's (chunked id there) begun host bad)) (λ codes.
         pick-ind Stepped _ _ _ (λ waited.
-        permitted-ind Stepped _ _ _ (λ _ bad. named (a-plane's (chunked id there) begun deepest codes waited bad)) (λ plane.
+        permitted-ind Stepped _ _ _ (λ _ bad. named (a-plane's (chunked id there) begun host room codes waited bad)) (λ plane.
         unit-ind Stepped s (at + channelHead) (c .stored) _ (λ _. further channelHead refl) (λ all.
         leafed (entered id refl) (a-channel (record {
           chunk = c;
           is = refl;
           begun = begun;
-          deepest = deepest;
+          host = host;
           room = room;
           awaited = waited;
           plane = plane;
@@ -307,30 +415,26 @@ module _ (s : List ℕ) (st : State) (at end levels : ℕ) where
 
     -- the kind of a block that is entered, by its place
     kind-stepped :
-        {p : Parent} {a : Placing} → Held levels p → Placed st (h .id) p a → a ≡ Enter → isSurplus st (h .id) ≡ false → areLengths h ≡ true
-        → Stepped (kindOf s st h at level)
+        {p : Parent} {a : Placing} → p ≡ parent → Held (st .opened) levels p → Placed st (h .id) p a → a ≡ Enter → isSurplus st (h .id) ≡ false
+        → areLengths h ≡ true → Stepped (kindOf s st p h at level)
     unfolding kindOf
-    kind-stepped t refused z surplus good = let x : _≡_ {A = ℕ} 0 1 = cc in absurd (omega arith)
-    kind-stepped t (skip begun unused) z surplus good = let x : _≡_ {A = ℕ} 0 1 = cc in absurd (omega arith)
-    kind-stepped t (image none e) z surplus good =
-        subst⁻¹ Stepped (pick-yes _ _ _ (eq-eqb (h .id) 0 e)) (image-stepped e none (image-total h good e))
-    kind-stepped (by-main top) (palette begun e once used) z surplus good =
-        subst⁻¹ Stepped (pick-no _ _ _ (ne-eqb (h .id) 0 (λ z. absurd (omega arith))) ∙ pick-yes _ _ _ (eq-eqb (h .id) 2 e))
-        (palette-stepped e begun top once used)
-    kind-stepped (by-main top) (bank begun e once) z surplus good =
-        subst⁻¹ Stepped
-        (pick-no _ _ _ (ne-eqb (h .id) 0 (λ z. absurd (omega arith))) ∙ pick-no _ _ _ (ne-eqb (h .id) 2 (λ z. absurd (omega arith))) ∙ pick-yes _ _ _ (eq-eqb (h .id) 3 e))
-        (bank-stepped e begun top once)
-    kind-stepped (by-bank in-bank) (layer begun e) z surplus good =
-        subst⁻¹ Stepped
-        (pick-no _ _ _ (ne-eqb (h .id) 0 (λ z. absurd (omega arith))) ∙ pick-no _ _ _ (ne-eqb (h .id) 2 (λ z. absurd (omega arith)))
-        ∙ pick-no _ _ _ (ne-eqb (h .id) 3 (λ z. absurd (omega arith))) ∙ pick-yes _ _ _ (eq-eqb (h .id) 4 e))
-        (layer-stepped e begun in-bank (layer-room st (h .id) surplus e) (layer-total h good e))
-    kind-stepped (by-layer deepest) (channel begun e) z surplus good =
-        subst⁻¹ Stepped
-        (pick-no _ _ _ (ne-eqb (h .id) 0 (λ z. absurd (omega arith))) ∙ pick-no _ _ _ (ne-eqb (h .id) 2 (λ z. absurd (omega arith)))
-        ∙ pick-no _ _ _ (ne-eqb (h .id) 3 (λ z. absurd (omega arith))) ∙ pick-no _ _ _ (ne-eqb (h .id) 4 (λ z. absurd (omega arith))))
-        (channel-stepped e begun deepest (channel-room st (h .id) surplus e))
+    kind-stepped is t refused z surplus good = let x : _≡_ {A = ℕ} 0 1 = cc in absurd (omega arith)
+    kind-stepped is t (skip begun unused) z surplus good = let x : _≡_ {A = ℕ} 0 1 = cc in absurd (omega arith)
+    kind-stepped is t (image none e) z surplus good = subst⁻¹ Stepped (ids.by-image _ _ _ _ _ _ _ _ _ e) (image-stepped e none (image-total h good e))
+    kind-stepped is (by-main top) (palette begun e once used) z surplus good = subst⁻¹ Stepped (ids.by-palette _ _ _ _ _ _ _ _ _ e) (palette-stepped e begun top once used)
+    kind-stepped is (by-main top) (bank begun e once) z surplus good = subst⁻¹ Stepped (ids.by-bank _ _ _ _ _ _ _ _ _ e) (bank-stepped e begun top once)
+    kind-stepped is (by-bank in-bank o) (layer begun e) z surplus good =
+        subst⁻¹ Stepped (ids.by-layer _ _ _ _ _ _ _ _ _ e) (layer-stepped e begun in-bank o (layer-room st (h .id) surplus e) (layer-total h good e))
+    kind-stepped is (by-main top) (selection begun e once) z surplus good =
+        subst⁻¹ Stepped (ids.by-selection _ _ _ _ _ _ _ _ _ e) (selection-stepped e begun top once (selection-total h good e))
+    kind-stepped is (by-main top) (alpha-bank begun e once) z surplus good =
+        subst⁻¹ Stepped (ids.by-alpha-bank _ _ _ _ _ _ _ _ _ e) (alpha-bank-stepped e begun top once (alpha-bank-total h good e))
+    kind-stepped is (by-alpha-bank in-bank o) (alpha begun e) z surplus good =
+        subst⁻¹ Stepped (ids.by-alpha _ _ _ _ _ _ _ _ _ e) (alpha-stepped e begun in-bank o (alpha-room st (h .id) surplus e) (alpha-total h good e))
+    kind-stepped {p} is t (channel begun host e) z surplus good =
+        subst⁻¹ Stepped (ids.by-channel _ _ _ _ _ _ _ _ _ e)
+        (subst⁻¹ (λ (x : Parent). Stepped (channelBlock s st x (h .total) at level)) is
+        (channel-stepped e begun (subst (λ (x : Parent). isHost x ≡ true) is host) (channel-room st (h .id) surplus e)))
 
     -- a block that is skipped
     passed-stepped : {p : Parent} {a : Placing} → Placed st (h .id) p a → a ≡ Skip → Stepped (skipBlock s st (h .id) (h .total) at level)
@@ -340,18 +444,21 @@ module _ (s : List ℕ) (st : State) (at end levels : ℕ) where
     passed-stepped (palette begun e once used) z = let x : _≡_ {A = ℕ} 0 1 = cc in absurd (omega arith)
     passed-stepped (bank begun e once) z = let x : _≡_ {A = ℕ} 0 1 = cc in absurd (omega arith)
     passed-stepped (layer begun e) z = let x : _≡_ {A = ℕ} 0 1 = cc in absurd (omega arith)
-    passed-stepped (channel begun e) z = let x : _≡_ {A = ℕ} 0 1 = cc in absurd (omega arith)
+    passed-stepped (channel begun host e) z = let x : _≡_ {A = ℕ} 0 1 = cc in absurd (omega arith)
+    passed-stepped (selection begun e once) z = let x : _≡_ {A = ℕ} 0 1 = cc in absurd (omega arith)
+    passed-stepped (alpha-bank begun e once) z = let x : _≡_ {A = ℕ} 0 1 = cc in absurd (omega arith)
+    passed-stepped (alpha begun e) z = let x : _≡_ {A = ℕ} 0 1 = cc in absurd (omega arith)
 
   placed-stepped :
-      levels ≤ main → at + blockHeaderSize ≤ length s → (h : BlockHeader) → h ≡ blockHeaderAt s at → (a : Placing) → Placed st (h .id) (parentAt levels) a
-      → Stepped (placedOf s st h a at end level)
+      levels ≤ main → at + blockHeaderSize ≤ length s → (h : BlockHeader) → h ≡ blockHeaderAt s at → (a : Placing) → Placed st (h .id) parent a
+      → Stepped (placedOf s st parent h a at end level)
   unfolding placedOf
   placed-stepped low header h same Refuse place = here refl
   placed-stepped low header h same Enter place =
       pick-ind Stepped (isSurplus st (h .id)) _ _ (λ _. here refl) (λ surplus.
       pick-ind Stepped _ _ _ (λ good.
       let parts = both (areLengths h) (isInside h at end) good in
-      kind-stepped header h same (leb-true _ _ (parts .1)) (held levels low) place refl surplus (parts .0))
+      kind-stepped header h same (leb-true _ _ (parts .1)) refl (held (st .opened) levels low) place refl surplus (parts .0))
       (λ _. here refl))
   placed-stepped low header h same Skip place =
       pick-ind Stepped (isInside h at end) _ _ (λ good. passed-stepped header h same (leb-true _ _ good) place refl) (λ _. here refl)
@@ -361,15 +468,15 @@ module _ (s : List ℕ) (st : State) (at end levels : ℕ) where
   block-stepped low =
       unit-ind Stepped s at blockHeaderSize _ (λ _. here refl) (λ header.
       let h = blockHeaderOf (part s at blockHeaderSize) in
-      pick-ind Stepped _ _ _ (λ _. placed-stepped low header h refl _ (placed st (h .id) (parentAt levels))) (λ _. here refl))
+      pick-ind Stepped _ _ _ (λ _. placed-stepped low header h refl _ (placed st (h .id) parent)) (λ _. here refl))
 
   pub stepped : levels ≤ main → Stepped (stepAt s st at end levels)
   unfolding stepAt
   stepped low =
       pick-ind Stepped (eqb levels main) _ _
       (λ top. pick-ind Stepped (eqb at (length s)) _ _
-      (λ last. pick-ind Stepped (isFull st (parentAt levels)) _ _ (λ all. accepted (eqb-true levels main top) (eqb-true at (length s) last) all) (λ _. here refl))
+      (λ last. pick-ind Stepped (isFull st parent) _ _ (λ all. accepted (eqb-true levels main top) (eqb-true at (length s) last) all) (λ _. here refl))
       (λ _. block-stepped low))
       (λ inner. pick-ind Stepped (eqb at end) _ _
-      (λ last. pick-ind Stepped (isFull st (parentAt levels)) _ _ (λ all. ended (eqb-false levels main inner) (eqb-true at end last) all) (λ _. here refl))
+      (λ last. pick-ind Stepped (isFull st parent) _ _ (λ all. ended (eqb-false levels main inner) (eqb-true at end last) all) (λ _. here refl))
       (λ _. pick-ind Stepped _ _ _ (λ _. here refl) (λ _. block-stepped low)))

@@ -1,9 +1,12 @@
 // A block: its header, its place, its count and its lengths; then its kind.
 use answer::Refusal;
 use attributes::image_attributes::ImageChunk;
+use chunk::alpha_bank_information::AlphaBankChunk;
+use chunk::alpha_information::AlphaChunk;
 use chunk::channel_information::ChannelChunk;
 use chunk::color_palette::PaletteChunk;
 use chunk::layer_information::LayerChunk;
+use chunk::selection_information::SelectionChunk;
 use headers::block_header::BlockHeader;
 use kinds::Step;
 use memory::MAIN;
@@ -33,14 +36,17 @@ fn lengths(h: BlockHeader) -> bool
         2 => (initial == PaletteChunk::SIZE) & (PaletteChunk::SIZE <= total),
         3 => initial == 0,
         4 => ((initial == LayerChunk::SIZE) | (initial == 0)) & (LayerChunk::SIZE <= total),
+        6 => (initial == SelectionChunk::SIZE) & (SelectionChunk::SIZE <= total),
+        7 => (initial == AlphaBankChunk::SIZE) & (AlphaBankChunk::SIZE <= total),
+        8 => (initial == AlphaChunk::SIZE) & (AlphaChunk::SIZE <= total),
         _ => (initial == ChannelChunk::SIZE) & (ChannelChunk::SIZE <= total),
     }
 }
 
-// Its chunk, by kind.
-fn kind(s: &[u8], st: State, h: BlockHeader, at: usize, level: usize) -> Step
+// Its chunk, by kind; a channel is also judged by what holds it.
+fn kind(s: &[u8], st: State, parent: Parent, h: BlockHeader, at: usize, level: usize) -> Step
     requires { ⌜ (Headed (now s) at level) × (Roomy st (h .id)) ⌝ }
-    ensures { λ r. ⌜ told r ≡ kindOf (now (s .entry)) st h at level ⌝ }
+    ensures { λ r. ⌜ told r ≡ kindOf (now (s .entry)) st parent h at level ⌝ }
 {
     if h.id == 0 {
         return kinds::image_block(s, st, at, level);
@@ -54,7 +60,16 @@ fn kind(s: &[u8], st: State, h: BlockHeader, at: usize, level: usize) -> Step
     if h.id == 4 {
         return layers::layer_block(s, st, h.total, at, level);
     }
-    layers::channel_block(s, st, h.total, at, level)
+    if h.id == 6 {
+        return masks::selection_block(s, st, h.total, at, level);
+    }
+    if h.id == 7 {
+        return masks::alpha_bank_block(s, st, h.total, at, level);
+    }
+    if h.id == 8 {
+        return masks::alpha_block(s, st, h.total, at, level);
+    }
+    layers::channel_block(s, st, parent, h.total, at, level)
 }
 
 // One more than announced (9), lengths (6).
@@ -68,7 +83,7 @@ fn entered(
     parent: Parent,
 ) -> Step
     requires { ⌜ (Headed (now s) at level) × (placeOf st (h .id) parent ≡ placing.Enter) ⌝ }
-    ensures { λ r. ⌜ told r ≡ placedOf (now (s .entry)) st h placing.Enter at end level ⌝ }
+    ensures { λ r. ⌜ told r ≡ placedOf (now (s .entry)) st parent h placing.Enter at end level ⌝ }
 {
     if st.surplus(h.id) {
         return Step::Stop {
@@ -78,7 +93,7 @@ fn entered(
     }
     let after = at + BlockHeader::SIZE + h.total as usize;
     if lengths(h) & (after <= end) {
-        return kind(s, st, h, at, level);
+        return kind(s, st, parent, h, at, level);
     }
     Step::Stop {
         refusal: Refusal::WrongLength,
@@ -87,9 +102,17 @@ fn entered(
 }
 
 // Only its total is judged (6).
-fn skipped(s: &[u8], st: State, h: BlockHeader, at: usize, end: usize, level: usize) -> Step
+fn skipped(
+    s: &[u8],
+    st: State,
+    h: BlockHeader,
+    at: usize,
+    end: usize,
+    level: usize,
+    parent: Parent,
+) -> Step
     requires { ⌜ Headed (now s) at level ⌝ }
-    ensures { λ r. ⌜ told r ≡ placedOf (now (s .entry)) st h placing.Skip at end level ⌝ }
+    ensures { λ r. ⌜ told r ≡ placedOf (now (s .entry)) st parent h placing.Skip at end level ⌝ }
 {
     let after = at + BlockHeader::SIZE + h.total as usize;
     if after <= end {
@@ -112,7 +135,7 @@ fn placed(
     parent: Parent,
 ) -> Step
     requires { ⌜ Headed (now s) at level ⌝ }
-    ensures { λ r. ⌜ told r ≡ placedOf (now (s .entry)) st h (placeOf st (h .id) parent) at end level ⌝ }
+    ensures { λ r. ⌜ told r ≡ placedOf (now (s .entry)) st parent h (placeOf st (h .id) parent) at end level ⌝ }
 {
     match memory::place(st, h.id, parent) {
         Placing::Refuse => Step::Stop {
@@ -120,7 +143,7 @@ fn placed(
             place: at,
         },
         Placing::Enter => entered(s, st, h, at, end, level, parent),
-        Placing::Skip => skipped(s, st, h, at, end, level),
+        Placing::Skip => skipped(s, st, h, at, end, level, parent),
     }
 }
 
@@ -138,7 +161,9 @@ pub fn block(s: &[u8], st: State, at: usize, end: usize, levels: usize) -> Step
     }
     let h = BlockHeader::decode(s, at);
     if h.marked() {
-        return placed(s, st, h, at, end, MAIN - levels, Parent::at(levels));
+        let opened = st.opened;
+        let parent = Parent::at(opened, levels);
+        return placed(s, st, h, at, end, MAIN - levels, parent);
     }
     Step::Stop {
         refusal: Refusal::WrongMark,

@@ -20,7 +20,8 @@ fn inside(s: &[u8], st: State, at: usize, end: usize, levels: usize) -> Step
     ensures { λ r. ⌜ told r ≡ stepAt (now (s .entry)) st at end levels ⌝ }
 {
     if at == end {
-        if st.full(Parent::at(levels)) {
+        let opened = st.opened;
+        if st.full(Parent::at(opened, levels)) {
             return Step::End;
         }
         return Step::Stop {
@@ -47,7 +48,8 @@ pub fn look(s: &[u8], st: State, at: usize, end: usize, levels: usize) -> Step
     if at != s.len() {
         return block(s, st, at, end, levels);
     }
-    if st.full(Parent::at(levels)) {
+    let opened = st.opened;
+    if st.full(Parent::at(opened, levels)) {
         return Step::End;
     }
     Step::Stop {

@@ -1,8 +1,9 @@
-// The numbers of an image chunk and of a layer chunk, and of a rectangle, as the lines have them: in file order but for a layer's
+// The numbers of an image chunk, of a layer chunk and of a mask, and of a rectangle, as the lines have them: in file order but for a layer's
 // rectangles, which come last; a flag is 0 or 1. A name and blend ranges are bytes, and left to the caller.
 use attributes::image_attributes::ImageChunk;
 use chunk::area::Area;
 use chunk::layer_information::LayerChunk;
+use chunk::mask::Mask;
 use rect::Rect;
 
 fn byte(x: u8) {
@@ -62,6 +63,12 @@ pub fn layer(l: LayerChunk) {
     word(l.channels);
     area(l.image);
     area(l.mask);
+}
+
+pub fn mask(m: Mask) {
+    word(m.bitmaps);
+    word(m.channels);
+    area(m.area);
 }
 
 fn flags(l: LayerChunk) {

@@ -1,4 +1,5 @@
 // Reads standard input case by case, to its end, and hands each payload to its kind.
+use crate::areas;
 use crate::bitmaps;
 use crate::fields::refuse;
 use crate::listed;
@@ -24,6 +25,9 @@ fn answer(kind: u8, payload: &[u8]) {
         b'F' => views::image_facts(payload),
         b'Y' => views::layer_facts(payload),
         b'N' => views::layer_name(payload),
+        b'S' => areas::selection_facts(payload),
+        b'A' => areas::alpha_facts(payload),
+        b'M' => areas::alpha_name(payload),
         _ => refuse(b"?"),
     }
 }

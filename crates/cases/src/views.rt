@@ -14,17 +14,17 @@ ghost use lib.ListN.{length};
 // The longest ramp.
 const RAMP: u32 = 2048;
 
-fn numbered(kind: &[u8], number: u32) {
+pub fn numbered(kind: &[u8], number: u32) {
     text(kind);
     printing::number(number as u64);
 }
 
-fn placed(p: Part) {
+pub fn placed(p: Part) {
     printing::number(p.start as u64);
     printing::number(p.length as u64);
 }
 
-fn shown(number: u32, part: &[u8]) {
+pub fn shown(number: u32, part: &[u8]) {
     printing::number(number as u64);
     printing::number(hash::of_bytes(part) as u64);
     text(b"\n");

@@ -1,4 +1,4 @@
--- A palette, layer or channel chunk without a fault satisfies its rules.
+-- A chunk without a fault satisfies its rules.
 use mathlib.Core.Path.{_≡_}
 use mathlib.Core.Bool.{true}
 use Prim.Native.Nat.{ℕ}
@@ -13,10 +13,12 @@ use Rattle.attributes.proofs.Earliest.{kept}
 use Rattle.chunk.specs.declared.channel_information.ChannelChunk.{ChannelChunk}
 use Rattle.chunk.specs.declared.color_palette.PaletteChunk.{PaletteChunk}
 use Rattle.chunk.specs.declared.layer_information.LayerChunk.{LayerChunk}
+use Rattle.chunk.specs.declared.mask.Mask.{Mask}
 use Rattle.chunk.specs.ChannelInformation.{codesFields, codesFault, planeFields, planeFault}
 use Rattle.chunk.specs.ColorPalette.{paletteFields, paletteFault}
 use Rattle.chunk.specs.LayerInformation.{layerFields, layerFault}
-use Rattle.chunk.specs.Rules.{PaletteRules, LayerRules, CodesRules}
+use Rattle.chunk.specs.Mask.{maskFields, maskFault}
+use Rattle.chunk.specs.Rules.{PaletteRules, LayerRules, CodesRules, MaskRules}
 
 pub palette-rules : (depth : ℕ) (c : PaletteChunk) → paletteFault depth c ≡ None → PaletteRules depth c
 unfolding paletteFault
@@ -55,3 +57,16 @@ codes-rules c fault =
 pub plane-rule : (shape : Shape) (c : ChannelChunk) → planeFault shape c ≡ None → isPlane shape (c .plane) ≡ true
 unfolding planeFault
 plane-rule shape c fault = kept (planeFields shape c) fault .0
+
+-- a selection's or an alpha channel's
+pub mask-rules : (from : ℕ) (c : Mask) → maskFault from c ≡ None → MaskRules c
+unfolding maskFault
+mask-rules from c fault =
+    let k = kept (maskFields from c) fault in
+    record {
+      border = proper-yes (c .area .border) (k .0);
+      saved = saved-sized (c .area .saved) (c .area .border) (k .1 .0);
+      inside = saved-inside (c .area .saved) (c .area .border) (k .1 .0);
+      bitmaps = eqb-true _ _ (k .1 .1 .0);
+      channels = eqb-true _ _ (k .1 .1 .1 .0);
+    }

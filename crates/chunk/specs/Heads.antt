@@ -2,9 +2,12 @@
 use Prim.Native.Nat.{ℕ, _+_}
 use Rattle.headers.specs.BlockHeader.{blockHeaderSize}
 use Rattle.attributes.specs.ImageAttributes.{imageSize}
+use Rattle.chunk.specs.AlphaBankInformation.{alphaBankSize}
+use Rattle.chunk.specs.AlphaInformation.{alphaSize}
 use Rattle.chunk.specs.ChannelInformation.{channelSize}
 use Rattle.chunk.specs.ColorPalette.{paletteSize}
 use Rattle.chunk.specs.LayerInformation.{layerSize}
+use Rattle.chunk.specs.SelectionInformation.{selectionSize}
 
 -- 52
 abbrev pub imageHead : ℕ
@@ -21,3 +24,15 @@ layerHead = blockHeaderSize + layerSize
 -- 26
 abbrev pub channelHead : ℕ
 channelHead = blockHeaderSize + channelSize
+
+-- 50
+abbrev pub selectionHead : ℕ
+selectionHead = blockHeaderSize + selectionSize
+
+-- 16
+abbrev pub alphaBankHead : ℕ
+alphaBankHead = blockHeaderSize + alphaBankSize
+
+-- 306
+abbrev pub alphaHead : ℕ
+alphaHead = blockHeaderSize + alphaSize

@@ -1,4 +1,4 @@
--- What a palette, layer or channel chunk without a fault satisfies: document 01's rules, by name.
+-- What a palette, layer, channel, selection or alpha channel chunk without a fault satisfies: the documents' rules, by name.
 use Prim.Native.Nat.{ℕ, _+_, _^_, _≤_}
 use mathlib.Core.Path.{_≡_}
 use mathlib.Core.Bool.{true, _||_}
@@ -7,6 +7,7 @@ use Rattle.attributes.specs.Depth.{colourChannels}
 use Rattle.chunk.specs.declared.channel_information.ChannelChunk.{ChannelChunk}
 use Rattle.chunk.specs.declared.color_palette.PaletteChunk.{PaletteChunk}
 use Rattle.chunk.specs.declared.layer_information.LayerChunk.{LayerChunk}
+use Rattle.chunk.specs.declared.mask.Mask.{Mask}
 
 pub record PaletteRules (depth : ℕ) (c : PaletteChunk) : Type 0 where
   pub low : 1 ≤ c .count
@@ -28,3 +29,10 @@ pub record LayerRules (depth : ℕ) (c : LayerChunk) : Type 0 where
 pub record CodesRules (c : ChannelChunk) : Type 0 where
   pub bitmap : c .bitmap ≤ 5
   pub channel : c .channel ≤ 3
+
+pub record MaskRules (c : Mask) : Type 0 where
+  pub border : Proper (c .area .border)
+  pub saved : Sized (c .area .saved)
+  pub inside : (isEmpty (c .area .saved) || isInside (c .area .saved) (c .area .border)) ≡ true
+  pub bitmaps : c .bitmaps ≡ 1
+  pub channels : c .channels ≡ 1

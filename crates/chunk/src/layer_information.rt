@@ -1,5 +1,6 @@
 // The layer information chunk (document 000, section 5.9).
 use crate::area::Area;
+use crate::name::name_at;
 use attributes::depth;
 use attributes::fault::Fault;
 use headers::array;
@@ -100,15 +101,6 @@ fn flag_at(file: &[u8], at: usize) -> bool
     ensures { λ r. ⌜ r ≡ flagAt (now (file .entry)) at ⌝ }
 {
     endian::u8_at(file, at) != 0
-}
-
-fn name_at(file: &[u8], at: usize) -> [u8; 256]
-    requires { ⌜ at + 256 ≤ length (now file) ⌝ }
-    ensures { λ r. ⌜ r ≡ part (now (file .entry)) at 256 ⌝ }
-{
-    let mut name = [0u8; 256];
-    array::fill(&mut name, file, at);
-    name
 }
 
 fn ranges_at(file: &[u8], at: usize) -> [u8; 40]

@@ -1,11 +1,12 @@
 -- Each kind of block of the main level, once its header has passed: its chunk and its other units, in document 01's order of tests ("Units,
--- and when they are judged"). `at` is the header's place. Layers and channels are in the crate `layers`.
+-- and when they are judged"). `at` is the header's place. Layers and channels are in the crate `layers`, selections and alpha channels in `masks`.
 use Prim.Native.Nat.{ℕ, _+_, _*_}
 use mathlib.Core.Bool.{Bool}
 use mathlib.Core.List.{List}
 use lib.Dec.{eqb}
 use Rattle.laws.specs.Choice.{pick}
 use Rattle.answer.specs.declared.Refusal.the-variants.{WrongLength, WrongField, NotReadable}
+use Rattle.entry.specs.declared.Entry.{Entry}
 use Rattle.entry.specs.Entry.{block, content, plain, filled}
 use Rattle.walk.specs.Walk as walk
 use Rattle.walk.specs.Walk.{End, Stop, Leaf, Nest}
@@ -47,6 +48,12 @@ wrongField chunk offset = Stop WrongField (chunk + offset)
 unfoldable pub permitted : Fault → ℕ → Judged → Judged
 permitted None chunk rest = rest
 permitted (At offset) chunk rest = wrongField chunk offset
+
+-- a block that is entered behind its chunk: the chunk's fields, then the entry, the state inside, and the end that its total tells
+abbrev pub nestBlock : List ℕ → ℕ → ℕ → ℕ → (List ℕ → Fault) → Entry → (List ℕ → State) → Judged
+nestBlock s total at size fault entry state =
+    unit s (at + blockHeaderSize) size (λ chunk.
+    permitted (fault chunk) (at + blockHeaderSize) (Nest entry (at + (blockHeaderSize + size)) (state chunk) (at + blockHeaderSize + total)))
 
 -- ### Image, id 0: a bad field comes before a compression that is not read
 

@@ -9,6 +9,7 @@ use entry::Entry;
 use headers::block_header::BlockHeader;
 use kinds::Step;
 use kinds::wrong_field;
+use memory::Parent;
 use memory::State;
 use rect::Size;
 ghost use mathlib.Core.Path.{_≡_};
@@ -21,11 +22,12 @@ ghost use Rattle.layers.specs.Layers.{isAwaited, channelEntry, channelSi
 
 const HEAD: usize = BlockHeader::SIZE + ChannelChunk::SIZE;
 
-// Expected in a layer of this depth, and none twice.
-fn awaited(st: State, c: ChannelChunk) -> bool
-    ensures { λ r. ⌜ r ≡ isAwaited st c ⌝ }
+// Expected by what holds it, in an image of this depth, and none twice in a layer.
+fn awaited(st: State, parent: Parent, c: ChannelChunk) -> bool
+    ensures { λ r. ⌜ r ≡ isAwaited st parent c ⌝ }
 {
-    memory::expected(st.image.depth, c.bitmap, c.channel) & !st.layer.codes.has(c.bitmap, c.channel)
+    memory::expected(parent, st.image.depth, c.bitmap, c.channel)
+        & !st.current.codes.has(c.bitmap, c.channel)
 }
 
 // Its entry: a channel fills every part.
@@ -56,10 +58,10 @@ fn channel_entry(level: usize, at: usize, layer: u32, c: ChannelChunk, size: Siz
 
 // Its plane length and its content, once it is expected.
 fn sized(s: &[u8], st: State, at: usize, level: usize, c: ChannelChunk) -> Step
-    requires { ⌜ (Headed (now s) at level) × (0 < st .layer .left) ⌝ }
-    ensures { λ r. ⌜ told r ≡ channelSized (now (s .entry)) st at level c (shapeFor (st .layer) (st .image .depth) (c .bitmap)) ⌝ }
+    requires { ⌜ (Headed (now s) at level) × (0 < st .current .left) ⌝ }
+    ensures { λ r. ⌜ told r ≡ channelSized (now (s .entry)) st at level c (shapeFor (st .current) (st .image .depth) (c .bitmap)) ⌝ }
 {
-    let shape = st.layer.shape_for(st.image.depth, c.bitmap);
+    let shape = st.current.shape_for(st.image.depth, c.bitmap);
     match c.judge_plane(shape) {
         Fault::At(offset) => wrong_field(at + BlockHeader::SIZE, offset),
         Fault::None => {
@@ -72,7 +74,7 @@ fn sized(s: &[u8], st: State, at: usize, level: usize, c: ChannelChunk) -> Step
                 };
             }
             Step::Leaf {
-                entry: channel_entry(level, at, st.layer.number, c, shape.size(c.plane)),
+                entry: channel_entry(level, at, st.current.number, c, shape.size(c.plane)),
                 next,
                 state: st.with_channel(c),
             }
@@ -81,14 +83,14 @@ fn sized(s: &[u8], st: State, at: usize, level: usize, c: ChannelChunk) -> Step
 }
 
 // Its codes, once its total is good.
-fn coded(s: &[u8], st: State, at: usize, level: usize, c: ChannelChunk) -> Step
-    requires { ⌜ (Headed (now s) at level) × (0 < st .layer .left) ⌝ }
-    ensures { λ r. ⌜ told r ≡ channelCoded (now (s .entry)) st at level c ⌝ }
+fn coded(s: &[u8], st: State, parent: Parent, at: usize, level: usize, c: ChannelChunk) -> Step
+    requires { ⌜ (Headed (now s) at level) × (0 < st .current .left) ⌝ }
+    ensures { λ r. ⌜ told r ≡ channelCoded (now (s .entry)) st parent at level c ⌝ }
 {
     match c.judge_codes() {
         Fault::At(offset) => wrong_field(at + BlockHeader::SIZE, offset),
         Fault::None => {
-            if awaited(st, c) {
+            if awaited(st, parent, c) {
                 return sized(s, st, at, level, c);
             }
             Step::Stop {
@@ -99,9 +101,16 @@ fn coded(s: &[u8], st: State, at: usize, level: usize, c: ChannelChunk) -> Step
     }
 }
 
-pub fn channel_block(s: &[u8], st: State, total: u32, at: usize, level: usize) -> Step
-    requires { ⌜ (Headed (now s) at level) × (0 < st .layer .left) ⌝ }
-    ensures { λ r. ⌜ told r ≡ channelBlock (now (s .entry)) st total at level ⌝ }
+pub fn channel_block(
+    s: &[u8],
+    st: State,
+    parent: Parent,
+    total: u32,
+    at: usize,
+    level: usize,
+) -> Step
+    requires { ⌜ (Headed (now s) at level) × (0 < st .current .left) ⌝ }
+    ensures { λ r. ⌜ told r ≡ channelBlock (now (s .entry)) st parent total at level ⌝ }
 {
     let chunk = at + BlockHeader::SIZE;
     let end = chunk + ChannelChunk::SIZE;
@@ -113,7 +122,7 @@ pub fn channel_block(s: &[u8], st: State, total: u32, at: usize, level: usize) -
     }
     let c = ChannelChunk::decode(s, chunk);
     if total as usize == ChannelChunk::SIZE + c.stored as usize {
-        return coded(s, st, at, level, c);
+        return coded(s, st, parent, at, level, c);
     }
     Step::Stop {
         refusal: Refusal::WrongLength,

@@ -16,11 +16,12 @@ ghost use Rattle.layers.specs.Layers.{layerBlock};
 const HEAD: usize = BlockHeader::SIZE + LayerChunk::SIZE;
 
 pub fn layer_block(s: &[u8], st: State, total: u32, at: usize, level: usize) -> Step
-    requires { ⌜ (Headed (now s) at level) × (st .found < st .image .layers) ⌝ }
+    requires { ⌜ (Headed (now s) at level) × (st .members .found < st .members .announced) ⌝ }
     ensures { λ r. ⌜ told r ≡ layerBlock (now (s .entry)) st total at level ⌝ }
 {
     let chunk = at + BlockHeader::SIZE;
     let end = chunk + LayerChunk::SIZE;
+    let after = chunk + total as usize;
     if s.len() < end {
         return Step::Stop {
             refusal: Refusal::EndsTooSoon,
@@ -31,10 +32,10 @@ pub fn layer_block(s: &[u8], st: State, total: u32, at: usize, level: usize) -> 
     match c.judge(st.image.depth) {
         Fault::At(offset) => wrong_field(chunk, offset),
         Fault::None => Step::Nest {
-            entry: ranked_entry(4, level, at, HEAD, st.found),
+            entry: ranked_entry(4, level, at, HEAD, st.members.found),
             inside: at + HEAD,
             state: st.with_layer(c),
-            after: chunk + total as usize,
+            after,
         },
     }
 }

@@ -1,4 +1,5 @@
--- What the rules remember of the codes of a layer's channels is what has come: so a code that has not come is none of those listed.
+-- What the rules remember of the codes of a layer's channels is what has come: so a code that has not come is none of those listed. Of a
+-- selection and an alpha channel they remember the count alone: one channel, of the one code that is expected.
 use mathlib.Core.Path.{_≡_, refl, sym, ap, subst⁻¹, _∙_}
 use mathlib.Core.Logic.{inl, inr}
 use mathlib.Core.Bool.{Bool, true, false, _&&_, _||_, not}
@@ -8,15 +9,20 @@ use native.Mathlib.Omega.{arith}
 use borrow.Author.Tests.{eqb-true, leb-true}
 use lib.Dec.{eqb, leb}
 use Rattle.laws.specs.Choice.{pick}
+use lib.ListN.{length}
 use Rattle.laws.specs.All.{All, empty, both}
+use Rattle.laws.specs.Along.{Along, along-step}
 use Rattle.laws.proofs.All.{all-map, all-more}
 use Rattle.laws.proofs.Tests as tests
 use Rattle.laws.proofs.Tests.{never, either, one-of}
 use Rattle.entry.specs.declared.Code.{Code}
 use Rattle.entry.specs.Entry.{code}
 use Rattle.memory.specs.declared.codes.Codes.{Codes}
-use Rattle.memory.specs.Codes.{isExpected, noCodes, hasCodes, withCodes, hasColours}
-use Rattle.listing.specs.Right.{colours}
+use Rattle.memory.specs.declared.parent.Parent.{Parent}
+use Rattle.memory.specs.declared.parent.Parent.the-variants.{Main, Bank, Layer, Selection, AlphaBank, Alpha}
+use Rattle.memory.specs.Codes.{isOfLayer, isExpected, noCodes, hasCodes, withCodes, hasColours}
+use Rattle.memory.specs.Parent.{isHost}
+use Rattle.listing.specs.Right.{Awaited, needed}
 
 -- ### What holds of each code that may be expected holds of one that is
 
@@ -27,10 +33,10 @@ one-to-three P p₁ p₂ p₃ (suc (suc zero)) low high = p₂
 one-to-three P p₁ p₂ p₃ (suc (suc (suc zero))) low high = p₃
 one-to-three P p₁ p₂ p₃ (suc (suc (suc (suc n)))) low high = absurd (omega arith)
 
-pub expected-ind :
+layer-ind :
     (P : ℕ → ℕ → Type 0) → P 0 0 → P 0 1 → P 0 2 → P 0 3 → P 1 0 → P 2 0
-    → (depth b c : ℕ) → isExpected depth b c ≡ true → P b c
-expected-ind P p₀₀ p₀₁ p₀₂ p₀₃ p₁₀ p₂₀ depth b c h =
+    → (depth b c : ℕ) → isOfLayer depth b c ≡ true → P b c
+layer-ind P p₀₀ p₀₁ p₀₂ p₀₃ p₁₀ p₂₀ depth b c h =
     either (eqb b 0 && ((eqb depth 24 && leb 1 c && leb c 3) || (not (eqb depth 24) && eqb c 0))) _ h
     (λ colour.
     let k = tests.both (eqb b 0) _ colour in
@@ -46,6 +52,21 @@ expected-ind P p₀₀ p₀₁ p₀₂ p₀₃ p₁₀ p₂₀ depth b c h =
     (either (eqb b 1) (eqb b 2) (k .0)
     (λ e. subst⁻¹ (λ (n : ℕ). P n 0) (eqb-true b 1 e) p₁₀)
     (λ e. subst⁻¹ (λ (n : ℕ). P n 0) (eqb-true b 2 e) p₂₀)))
+
+one-code : (P : ℕ → ℕ → Type 0) (bitmap b c : ℕ) → P bitmap 0 → (eqb b bitmap && eqb c 0) ≡ true → P b c
+one-code P bitmap b c p h =
+    let k = tests.both (eqb b bitmap) _ h in
+    subst⁻¹ (λ (n : ℕ). P n c) (eqb-true b bitmap (k .0)) (subst⁻¹ (P bitmap) (eqb-true c 0 (k .1)) p)
+
+pub expected-ind :
+    (P : Parent → ℕ → ℕ → Type 0) → P Layer 0 0 → P Layer 0 1 → P Layer 0 2 → P Layer 0 3 → P Layer 1 0 → P Layer 2 0 → P Selection 3 0 → P Alpha 4 0
+    → (p : Parent) (depth b c : ℕ) → isExpected p depth b c ≡ true → P p b c
+expected-ind P p₀₀ p₀₁ p₀₂ p₀₃ p₁₀ p₂₀ p₃₀ p₄₀ Layer depth b c h = layer-ind (P Layer) p₀₀ p₀₁ p₀₂ p₀₃ p₁₀ p₂₀ depth b c h
+expected-ind P p₀₀ p₀₁ p₀₂ p₀₃ p₁₀ p₂₀ p₃₀ p₄₀ Selection depth b c h = one-code (P Selection) 3 b c p₃₀ h
+expected-ind P p₀₀ p₀₁ p₀₂ p₀₃ p₁₀ p₂₀ p₃₀ p₄₀ Alpha depth b c h = one-code (P Alpha) 4 b c p₄₀ h
+expected-ind P p₀₀ p₀₁ p₀₂ p₀₃ p₁₀ p₂₀ p₃₀ p₄₀ Main depth b c h = never h
+expected-ind P p₀₀ p₀₁ p₀₂ p₀₃ p₁₀ p₂₀ p₃₀ p₄₀ Bank depth b c h = never h
+expected-ind P p₀₀ p₀₁ p₀₂ p₀₃ p₁₀ p₂₀ p₃₀ p₄₀ AlphaBank depth b c h = never h
 
 -- ### One code more
 
@@ -75,9 +96,9 @@ stays k b c x y =
     (still (eqb x 1) (k .transparency) _))
     (still (eqb x 2) (k .user) _)
 
-comes : (depth : ℕ) (k : Codes) (b c : ℕ) → isExpected depth b c ≡ true → hasCodes (withCodes k b c) b c ≡ true
+comes : (depth : ℕ) (k : Codes) (b c : ℕ) → isOfLayer depth b c ≡ true → hasCodes (withCodes k b c) b c ≡ true
 comes depth k b c =
-    expected-ind (λ (x y : ℕ). hasCodes (withCodes k x y) x y ≡ true)
+    layer-ind (λ (x y : ℕ). hasCodes (withCodes k x y) x y ≡ true)
     (simp or-true) (simp or-true) (simp or-true) (simp or-true) (simp or-true) (simp or-true) depth b c
 
 -- ### The codes that have come, and what the rules remember
@@ -89,7 +110,7 @@ pub record Came (k : Codes) (codes : List Code) : Type 0 where
   pub green : k .green ≡ true → List·Memᴰ (code 0 2) codes
   pub blue : k .blue ≡ true → List·Memᴰ (code 0 3) codes
 
-pub came-none : Came noCodes []
+came-none : Came noCodes []
 came-none = record { has = empty; composite = λ h. never h; red = λ h. never h; green = λ h. never h; blue = λ h. never h }
 
 -- a colour code is remembered, or it is the one that comes
@@ -104,8 +125,8 @@ colour-more n b c t {codes} had h =
     let y = eqb-true c n (k .1) in
     Memᴰ·append-right codes (List·Memᴰ·head (λ i. code (sym x i) (sym y i))))
 
-pub came-more :
-    (depth b c : ℕ) {k : Codes} {codes : List Code} → isExpected depth b c ≡ true → Came k codes
+came-more :
+    (depth b c : ℕ) {k : Codes} {codes : List Code} → isOfLayer depth b c ≡ true → Came k codes
     → Came (withCodes k b c) (codes ++ code b c ∷ [])
 came-more depth b c {k} expected h = record {
   has = all-more (all-map (λ x e. stays k b c (x .bitmap) (x .channel) e) (h .has)) (comes depth k b c expected);
@@ -116,15 +137,15 @@ came-more depth b c {k} expected h = record {
 }
 
 -- what has not come is none of these codes
-pub came-once :
+came-once :
     {k : Codes} {codes : List Code} (b c : ℕ) → Came k codes → hasCodes k b c ≡ false → All (λ (y : Code). y ≡ code b c → ⊥) codes
 came-once {k} b c h other =
     all-map
     (λ y has e. never (sym other ∙ sym (ap (λ (x : Code). hasCodes k (x .bitmap) (x .channel)) e) ∙ has)) (h .has)
 
-pub came-coloured :
+came-coloured :
     (depth : ℕ) {k : Codes} {codes : List Code} → Came k codes → hasColours k depth ≡ true
-    → All (λ (x : Code). List·Memᴰ x codes) (colours depth)
+    → All (λ (x : Code). List·Memᴰ x codes) (needed Layer depth)
 unfolding pick
 came-coloured depth {k} {codes} h all = by (eqb depth 24) all
   where
@@ -139,3 +160,69 @@ came-coloured depth {k} {codes} h all = by (eqb depth 24) all
         both (h .red (q .0)) (both (h .green (q .1)) (both (h .blue (p .1)) empty)))
         (λ z. never z)
     by false e = both (h .composite e) empty
+
+-- ### By what holds the channels
+
+-- only a layer's codes are remembered
+abbrev pub CameIn : Parent → Codes → List Code → Type 0
+CameIn Layer k codes = Came k codes
+CameIn Selection k codes = Unit
+CameIn Alpha k codes = Unit
+CameIn Main k codes = Unit
+CameIn Bank k codes = Unit
+CameIn AlphaBank k codes = Unit
+
+pub came-in-none : (p : Parent) → CameIn p noCodes []
+came-in-none Layer = came-none
+came-in-none Selection = tt
+came-in-none Alpha = tt
+came-in-none Main = tt
+came-in-none Bank = tt
+came-in-none AlphaBank = tt
+
+pub came-in-more :
+    (p : Parent) (depth b c : ℕ) (k : Codes) (codes : List Code) → isExpected p depth b c ≡ true → CameIn p k codes
+    → CameIn p (withCodes k b c) (codes ++ code b c ∷ [])
+came-in-more Layer depth b c k codes expected h = came-more depth b c expected h
+came-in-more Selection depth b c k codes expected h = tt
+came-in-more Alpha depth b c k codes expected h = tt
+came-in-more Main depth b c k codes expected h = tt
+came-in-more Bank depth b c k codes expected h = tt
+came-in-more AlphaBank depth b c k codes expected h = tt
+
+-- none comes twice: it is not remembered, or none has come at all
+nothing-yet : {x : Code} (codes : List Code) → length codes ≡ 0 → All (λ (y : Code). y ≡ x → ⊥) codes
+nothing-yet [] h = empty
+nothing-yet (y ∷ codes) h = absurd (omega arith)
+
+pub came-in-once :
+    (p : Parent) (k : Codes) (codes : List Code) (b c : ℕ) → isHost p ≡ true → CameIn p k codes → hasCodes k b c ≡ false
+    → ((p ≡ Layer → ⊥) → length codes ≡ 0) → All (λ (y : Code). y ≡ code b c → ⊥) codes
+came-in-once Layer k codes b c host h other none = came-once b c h other
+came-in-once Selection k codes b c host h other none = nothing-yet codes (none (λ e. let z : _≡_ {A = ℕ} 0 1 = cc in absurd (omega arith)))
+came-in-once Alpha k codes b c host h other none = nothing-yet codes (none (λ e. let z : _≡_ {A = ℕ} 0 1 = cc in absurd (omega arith)))
+came-in-once Main k codes b c host h other none = never host
+came-in-once Bank k codes b c host h other none = never host
+came-in-once AlphaBank k codes b c host h other none = never host
+
+-- all that is needed has come: of one channel, the one that is expected
+only-one :
+    {p : Parent} {depth : ℕ} (x : Code) (codes : List Code) → ((b c : ℕ) → isExpected p depth b c ≡ true → x ≡ code b c) → length codes ≡ 1
+    → Along (Awaited p depth) [] codes → All (λ (y : Code). List·Memᴰ y codes) (x ∷ [])
+only-one x [] only one each = absurd (omega arith)
+only-one x (y ∷ []) only one (along-step q rest) = both (List·Memᴰ·head (only (y .bitmap) (y .channel) (q .expected))) empty
+only-one x (y ∷ (z ∷ codes)) only one each = absurd (omega arith)
+
+pub came-in-all :
+    (p : Parent) (depth : ℕ) (k : Codes) (codes : List Code) → isHost p ≡ true → CameIn p k codes → (p ≡ Layer → hasColours k depth ≡ true)
+    → ((p ≡ Layer → ⊥) → length codes ≡ 1) → Along (Awaited p depth) [] codes → All (λ (x : Code). List·Memᴰ x codes) (needed p depth)
+came-in-all Layer depth k codes host h coloured one each = came-coloured depth h (coloured refl)
+came-in-all Selection depth k codes host h coloured one each =
+    only-one (code 3 0) codes (λ b c. one-code (λ (x y : ℕ). code 3 0 ≡ code x y) 3 b c refl)
+    (one (λ e. let z : _≡_ {A = ℕ} 0 1 = cc in absurd (omega arith))) each
+came-in-all Alpha depth k codes host h coloured one each =
+    only-one (code 4 0) codes (λ b c. one-code (λ (x y : ℕ). code 4 0 ≡ code x y) 4 b c refl)
+    (one (λ e. let z : _≡_ {A = ℕ} 0 1 = cc in absurd (omega arith))) each
+came-in-all Main depth k codes host h coloured one each = never host
+came-in-all Bank depth k codes host h coloured one each = never host
+came-in-all AlphaBank depth k codes host h coloured one each = never host

@@ -7,5 +7,6 @@ pub mod Tiled
 pub mod Prefix
 pub mod OneOutcome
 pub mod CodesRemembered
+pub mod Holding
 pub mod StateMeaning
 pub mod RightEntries

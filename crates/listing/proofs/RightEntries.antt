@@ -22,6 +22,7 @@ use Rattle.headers.specs.BlockHeader.{blockHeaderAt}
 use Rattle.headers.specs.FileHeader.{fileHeaderSize}
 use Rattle.headers.specs.Places.{imagePlace}
 use Rattle.chunk.specs.Heads.{imageHead}
+use Rattle.memory.specs.declared.parent.Parent.the-variants.{AlphaBank}
 use Rattle.memory.specs.declared.state.State.{State}
 use Rattle.memory.specs.Parent.{main}
 use Rattle.memory.specs.State.{start}
@@ -30,7 +31,7 @@ use Rattle.block.proofs.Owed.{moves}
 use Rattle.block.proofs.Stepped.{Stepped, leafed, nested, OfHeader}
 use Rattle.listing.specs.Listing.{headOf, beyond, listing, listed}
 use Rattle.listing.specs.Right as right
-use Rattle.listing.specs.Right.{isLayer, isChannel, layersIn, depthOf, Full, RowTaken, Right, Headed}
+use Rattle.listing.specs.Right.{isLayer, isAlpha, isChannel, membersIn, layersIn, depthOf, Full, RowTaken, Right, Headed}
 use Rattle.listing.proofs.StateMeaning.{CameTo, fresh, Whole, whole, kept, rights, looked}
 
 -- behind a good header the blocks are walked, and no other header is accepted
@@ -89,6 +90,13 @@ pub layers-numbered :
     (s : List ℕ) (room : ℕ)
     → let es = listed s room .entries in (k : ℕ) (d : Entry) → k < length es → isLayer (getD es k d) ≡ true → getD es k d .layer ≡ layersIn (take k es)
 layers-numbered s room k d h z = ap (λ (e : Entry). e .layer) (each-right s room k d h .layer z .is)
+
+-- and an alpha channel's the count of alpha channels before it
+pub alphas-numbered :
+    (s : List ℕ) (room : ℕ)
+    → let es = listed s room .entries in
+    (k : ℕ) (d : Entry) → k < length es → isAlpha (getD es k d) ≡ true → getD es k d .layer ≡ membersIn AlphaBank (take k es)
+alphas-numbered s room k d h z = ap (λ (e : Entry). e .layer) (each-right s room k d h .alpha z .is)
 
 -- a channel's row is one of its forms, the padded one wherever that makes the plane, and as many rows as it is high are its plane
 pub rows-taken :

@@ -1,8 +1,9 @@
-// The bitmap and channel codes of a layer's channels: which are expected, and which have come.
+// The bitmap and channel codes of channels: which are expected by what holds them, and which have come.
+use crate::parent::Parent;
 ghost use mathlib.Core.Path.{_≡_};
-ghost use Rattle.memory.specs.Codes.{isExpected, hasCodes, withCodes, hasColours};
+ghost use Rattle.memory.specs.Codes.{isOfLayer, isExpected, hasCodes, withCodes, hasColours};
 
-// A channel of each code has come: bitmap 0 with channels 0 to 3, bitmap 1, bitmap 2.
+// A layer's channel of each code has come: bitmap 0 with channels 0 to 3, bitmap 1, bitmap 2.
 pub struct Codes {
     pub composite: bool,
     pub red: bool,
@@ -12,13 +13,27 @@ pub struct Codes {
     pub user: bool,
 }
 
-// Colours are bitmap 0: channels 1 to 3 at depth 24, else 0. Masks have channel 0.
-pub fn expected(depth: u16, bitmap: u16, channel: u16) -> bool
-    ensures { λ r. ⌜ r ≡ isExpected depth bitmap channel ⌝ }
+// In a layer colours are bitmap 0: channels 1 to 3 at depth 24, else 0. Masks have channel 0.
+fn of_layer(depth: u16, bitmap: u16, channel: u16) -> bool
+    ensures { λ r. ⌜ r ≡ isOfLayer depth bitmap channel ⌝ }
 {
     ((bitmap == 0)
         & (((depth == 24) & (1 <= channel) & (channel <= 3)) | ((depth != 24) & (channel == 0))))
         | (((bitmap == 1) | (bitmap == 2)) & (channel == 0))
+}
+
+// By what holds the channel.
+pub fn expected(parent: Parent, depth: u16, bitmap: u16, channel: u16) -> bool
+    ensures { λ r. ⌜ r ≡ isExpected parent depth bitmap channel ⌝ }
+{
+    match parent {
+        Parent::Layer => of_layer(depth, bitmap, channel),
+        Parent::Selection => (bitmap == 3) & (channel == 0),
+        Parent::Alpha => (bitmap == 4) & (channel == 0),
+        Parent::Main => false,
+        Parent::Bank => false,
+        Parent::AlphaBank => false,
+    }
 }
 
 impl Codes {

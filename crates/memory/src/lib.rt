@@ -8,6 +8,7 @@ mod state;
 pub use codes::Codes;
 pub use codes::expected;
 pub use parent::MAIN;
+pub use parent::Open;
 pub use parent::Parent;
 pub use places::Placing;
 pub use places::place;

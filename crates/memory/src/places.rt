@@ -13,42 +13,79 @@ pub enum Placing {
     Skip,
 }
 
-// 0 refuses a block, 1 enters it, 2 skips it. A row for each id: at the main level, in the bank, in a layer.
-const GRID: [u8; 36] = [
+// 0 refuses a block, 1 enters it, 2 skips it. A row for each id: at the main level, in the bank, in a layer, in a selection, in the alpha
+// bank, in an alpha channel.
+const GRID: [u8; 72] = [
     1,
+    0,
+    0,
+    0,
     0,
     0, // 0 image
     2,
     0,
+    0,
+    0,
+    0,
     0, // 1 creator
     1,
+    0,
+    0,
+    0,
     0,
     0, // 2 palette
     1,
     0,
+    0,
+    0,
+    0,
     0, // 3 bank
     0,
     1,
+    0,
+    0,
+    0,
     0, // 4 layer
     0,
     0,
+    1,
+    1,
+    0,
     1, // 5 channel
-    2,
+    1,
+    0,
+    0,
+    0,
     0,
     0, // 6 selection
-    2,
+    1,
+    0,
+    0,
+    0,
     0,
     0, // 7 alpha bank
     0,
     0,
+    0,
+    0,
+    1,
     0, // 8 alpha channel
     2,
+    0,
+    0,
+    0,
     0,
     0, // 9 thumbnail
     2,
     0,
+    0,
+    0,
+    0,
     0, // 10 extended
     2,
+    0,
+    0,
+    0,
     0,
     0, // 11 tube
 ];
@@ -57,7 +94,7 @@ fn grid(id: u16, parent: Parent) -> Placing
     requires { ⌜ id < 12 ⌝ }
     ensures { λ r. ⌜ r ≡ gridOf id parent ⌝ }
 {
-    let i = (id as usize) * 3 + parent.column();
+    let i = (id as usize) * 6 + parent.column();
     let number = GRID[i];
     match number {
         0 => Placing::Refuse,
@@ -73,6 +110,9 @@ fn is_main(parent: Parent) -> bool
         Parent::Main => true,
         Parent::Bank => false,
         Parent::Layer => false,
+        Parent::Selection => false,
+        Parent::AlphaBank => false,
+        Parent::Alpha => false,
     }
 }
 
@@ -80,7 +120,13 @@ fn is_main(parent: Parent) -> bool
 fn barred(st: State, id: u16) -> bool
     ensures { λ r. ⌜ r ≡ isBarred st id ⌝ }
 {
-    (id == 0) | ((id == 2) & st.palette) | ((id == 3) & st.bank) | ((id == 9) & st.bank)
+    let met = st.met;
+    (id == 0)
+        | ((id == 2) & met.palette)
+        | ((id == 3) & met.bank)
+        | ((id == 9) & met.bank)
+        | ((id == 6) & met.selection)
+        | ((id == 7) & met.alphas)
 }
 
 // A palette at depth 24.

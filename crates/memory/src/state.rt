@@ -1,16 +1,21 @@
 // What the rules remember from block to block. It goes in by value and comes back by value, and knows no place.
 use crate::codes::Codes;
+use crate::parent::Open;
 use crate::parent::Parent;
 use attributes::depth;
 use attributes::image_attributes::ImageChunk;
+use chunk::alpha_bank_information::AlphaBankChunk;
+use chunk::alpha_information::AlphaChunk;
 use chunk::channel_information::ChannelChunk;
 use chunk::layer_information::LayerChunk;
+use chunk::mask::Mask;
+use chunk::selection_information::SelectionChunk;
 use rect::Shape;
 use rect::Sides;
 ghost use mathlib.Core.Path.{_≡_};
 ghost use Prim.Native.Nat.{_≤_, _<_};
-ghost use Rattle.chunk.specs.Rules.{LayerRules};
-ghost use Rattle.memory.specs.State.{announcedBy, withImage, withPalette, withBank, layerBy, withLayer, channelBy, withChannel, shapeFor, isSurplus, isFull};
+ghost use Rattle.chunk.specs.Rules.{LayerRules, MaskRules};
+ghost use Rattle.memory.specs.State.{announcedBy, withImage, withPalette, withBank, withAlphaBank, layerBy, maskBy, withSelection, withMember, withLayer, withAlpha, channelBy, withChannel, shapeFor, isSurplus, isFull};
 
 // What the image chunk announces: its depth, which is 0 until the chunk has come, whether it wants a palette, and its layer count.
 pub struct Announced {
@@ -19,8 +24,22 @@ pub struct Announced {
     pub layers: u32,
 }
 
-// The layer that the walk is in: its number, the channels that are still to come, the codes of those that have, and the sides of its
-// saved image and mask rectangles.
+// Which of the blocks that come once were met.
+pub struct Met {
+    pub palette: bool,
+    pub bank: bool,
+    pub selection: bool,
+    pub alphas: bool,
+}
+
+// Of the bank that is open: how many layers or alpha channels it announces, and how many were found in it.
+pub struct Members {
+    pub announced: u32,
+    pub found: u32,
+}
+
+// The layer, selection or alpha channel that the walk is in: its number, the channels that are still to come, the codes of those that have,
+// and the sides of its saved image and mask rectangles.
 pub struct Current {
     pub number: u32,
     pub left: u16,
@@ -29,13 +48,12 @@ pub struct Current {
     pub mask: Sides,
 }
 
-// Beside these: whether a palette was met, and the bank, and how many layers were found.
 pub struct State {
     pub image: Announced,
-    pub palette: bool,
-    pub bank: bool,
-    pub found: u32,
-    pub layer: Current,
+    pub met: Met,
+    pub opened: Open,
+    pub members: Members,
+    pub current: Current,
 }
 
 impl Announced {
@@ -74,16 +92,32 @@ impl Current {
         }
     }
 
+    // A selection or an alpha channel has one saved rectangle.
+    fn by_mask(c: Mask, number: u32) -> Current
+        requires { ⌜ MaskRules c ⌝ }
+        ensures { λ r. ⌜ r ≡ maskBy c number ⌝ }
+    {
+        let area = c.area;
+        let sides = Sides::of(area.saved);
+        Current {
+            number,
+            left: c.channels,
+            codes: Codes::NONE,
+            image: sides,
+            mask: sides,
+        }
+    }
+
     // One channel more.
     fn with_channel(self, c: ChannelChunk) -> Current
         requires { ⌜ 0 < self .left ⌝ }
         ensures { λ r. ⌜ r ≡ channelBy c self ⌝ }
     {
         let codes = self.codes.with(c.bitmap, c.channel);
-        let mut layer = self;
-        layer.left = self.left - 1;
-        layer.codes = codes;
-        layer
+        let mut current = self;
+        current.left = self.left - 1;
+        current.codes = codes;
+        current
     }
 
     // The shape of a bitmap's planes in an image of this depth.
@@ -113,10 +147,18 @@ impl State {
             paletted: false,
             layers: 0,
         },
-        palette: false,
-        bank: false,
-        found: 0,
-        layer: Current::NONE,
+        met: Met {
+            palette: false,
+            bank: false,
+            selection: false,
+            alphas: false,
+        },
+        opened: Open::Layers,
+        members: Members {
+            announced: 0,
+            found: 0,
+        },
+        current: Current::NONE,
     };
 
     pub fn with_image(mut self, c: ImageChunk) -> State
@@ -130,44 +172,113 @@ impl State {
     pub fn with_palette(mut self) -> State
         ensures { λ r. ⌜ r ≡ withPalette self ⌝ }
     {
-        self.palette = true;
+        self.met.palette = true;
         self
     }
 
-    pub fn with_bank(mut self) -> State
+    // The bank is entered, whose layers the image has announced.
+    pub fn with_bank(self) -> State
         ensures { λ r. ⌜ r ≡ withBank self ⌝ }
     {
-        self.bank = true;
+        let image = self.image;
+        let current = self.current;
+        let mut met = self.met;
+        met.bank = true;
+        State {
+            image,
+            met,
+            opened: Open::Layers,
+            members: Members {
+                announced: image.layers,
+                found: 0,
+            },
+            current,
+        }
+    }
+
+    // The alpha bank is entered, whose chunk announces its alpha channels.
+    pub fn with_alpha_bank(self, c: AlphaBankChunk) -> State
+        ensures { λ r. ⌜ r ≡ withAlphaBank c self ⌝ }
+    {
+        let image = self.image;
+        let current = self.current;
+        let mut met = self.met;
+        met.alphas = true;
+        State {
+            image,
+            met,
+            opened: Open::Alphas,
+            members: Members {
+                announced: c.count as u32,
+                found: 0,
+            },
+            current,
+        }
+    }
+
+    pub fn with_selection(self, c: SelectionChunk) -> State
+        requires { ⌜ MaskRules (c .mask) ⌝ }
+        ensures { λ r. ⌜ r ≡ withSelection c self ⌝ }
+    {
+        let image = self.image;
+        let members = self.members;
+        let mut met = self.met;
+        met.selection = true;
+        State {
+            image,
+            met,
+            opened: Open::Mask,
+            members,
+            current: Current::by_mask(c.mask, 0),
+        }
+    }
+
+    // One member of the open bank more.
+    fn with_member(mut self, current: Current) -> State
+        requires { ⌜ self .members .found < self .members .announced ⌝ }
+        ensures { λ r. ⌜ r ≡ withMember current self ⌝ }
+    {
+        let mut members = self.members;
+        members.found = members.found + 1;
+        self.members = members;
+        self.current = current;
         self
     }
 
-    pub fn with_layer(mut self, c: LayerChunk) -> State
-        requires { ⌜ (LayerRules (self .image .depth) c) × (self .found < self .image .layers) ⌝ }
+    pub fn with_layer(self, c: LayerChunk) -> State
+        requires { ⌜ (LayerRules (self .image .depth) c) × (self .members .found < self .members .announced) ⌝ }
         ensures { λ r. ⌜ r ≡ withLayer c self ⌝ }
     {
         let image = self.image;
-        let layer = Current::by(c, self.found, image.depth);
-        self.found = self.found + 1;
-        self.layer = layer;
-        self
+        let members = self.members;
+        self.with_member(Current::by(c, members.found, image.depth))
+    }
+
+    pub fn with_alpha(self, c: AlphaChunk) -> State
+        requires { ⌜ (MaskRules (c .mask)) × (self .members .found < self .members .announced) ⌝ }
+        ensures { λ r. ⌜ r ≡ withAlpha c self ⌝ }
+    {
+        let members = self.members;
+        self.with_member(Current::by_mask(c.mask, members.found))
     }
 
     pub fn with_channel(mut self, c: ChannelChunk) -> State
-        requires { ⌜ 0 < self .layer .left ⌝ }
+        requires { ⌜ 0 < self .current .left ⌝ }
         ensures { λ r. ⌜ r ≡ withChannel c self ⌝ }
     {
-        let layer = self.layer.with_channel(c);
-        self.layer = layer;
+        let current = self.current.with_channel(c);
+        self.current = current;
         self
     }
 
-    // One layer or channel more than announced.
+    // One layer, alpha channel or channel more than announced.
     pub fn surplus(self, id: u16) -> bool
         ensures { λ r. ⌜ r ≡ isSurplus self id ⌝ }
     {
-        let image = self.image;
-        let layer = self.layer;
-        ((id == 4) & (image.layers <= self.found)) | ((id == 5) & (layer.left == 0))
+        let members = self.members;
+        let current = self.current;
+        (((id == 4) | (id == 8)) & (members.announced <= members.found))
+            | ((id == 5) & (current.left == 0))
     }
 
     // At the end of what holds the place, nothing is missing.
@@ -175,14 +286,19 @@ impl State {
         ensures { λ r. ⌜ r ≡ isFull self parent ⌝ }
     {
         let image = self.image;
-        let layer = self.layer;
+        let met = self.met;
+        let members = self.members;
+        let current = self.current;
         match parent {
-            Parent::Main => self.bank & (!image.paletted | self.palette),
-            Parent::Bank => self.found == image.layers,
+            Parent::Main => met.bank & (!image.paletted | met.palette),
+            Parent::Bank => members.found == members.announced,
             Parent::Layer => {
-                let codes = layer.codes;
-                (layer.left == 0) & codes.coloured(image.depth)
+                let codes = current.codes;
+                (current.left == 0) & codes.coloured(image.depth)
             }
+            Parent::Selection => current.left == 0,
+            Parent::AlphaBank => members.found == members.announced,
+            Parent::Alpha => current.left == 0,
         }
     }
 }

@@ -2,7 +2,7 @@
 use mathlib.Core.Path.{_≡_, refl, sym, ap, subst, _∙_}
 use mathlib.Core.Bool.{true, cond}
 use mathlib.Core.List.{List}
-use Prim.Native.Nat.{ℕ, _+_, _≤_}
+use Prim.Native.Nat.{ℕ, _+_, _≤_, _<_}
 use native.Mathlib.Omega.{arith}
 use lib.Dec.{eqb, ltb}
 use lib.ListN.{length}
@@ -10,9 +10,7 @@ use Rattle.laws.specs.All.{empty, both}
 use Rattle.laws.proofs.Choice.{pick-ind}
 use Rattle.laws.proofs.Part.{part-length}
 use Rattle.laws.proofs.Tests.{never}
-use Rattle.limits.specs.Limits.{sideLimit}
-use Rattle.rect.specs.declared.Rect.{Rect}
-use Rattle.rect.specs.Rect.{widthOf, heightOf}
+use Rattle.rect.specs.Rect.{Sized}
 use Rattle.rect.specs.declared.planes.Shape.{Shape}
 use Rattle.answer.specs.declared.Refusal.{Refusal}
 use Rattle.answer.specs.declared.Refusal.the-variants.{WrongField}
@@ -35,25 +33,34 @@ use Rattle.attributes.proofs.Named.{starts, later}
 use Rattle.attributes.specs.Depth.{isDepth}
 use Rattle.attributes.proofs.Order.{image-names}
 use Rattle.attributes.proofs.Rules.{four}
-use Rattle.chunk.specs.declared.layer_information.LayerChunk.{LayerChunk}
+use Rattle.chunk.specs.AlphaInformation.{alphaRule}
 use Rattle.chunk.specs.ChannelInformation.{channelSize, channelAt, codesFault, planeFault}
 use Rattle.chunk.specs.ColorPalette.{paletteAt, paletteFault}
 use Rattle.chunk.specs.LayerInformation.{layerAt, layerFault, layerRule}
-use Rattle.chunk.proofs.Order.{Limited, palette-names, layer-names, codes-names, plane-names}
-use Rattle.chunk.proofs.Rules.{layer-rules, codes-rules}
+use Rattle.chunk.specs.SelectionInformation.{selectionRule}
+use Rattle.chunk.proofs.Order.{Limited, palette-names, layer-names, codes-names, plane-names, selection-names, alpha-names}
+use Rattle.chunk.proofs.Rules.{layer-rules, codes-rules, mask-rules}
+use Rattle.memory.specs.declared.parent.Open.{Open}
+use Rattle.memory.specs.declared.parent.Open.the-variants as opens
+use Rattle.memory.specs.declared.parent.Parent.{Parent}
+use Rattle.memory.specs.declared.parent.Parent.the-variants.{Main, Bank, Layer, Selection, AlphaBank, Alpha}
+use Rattle.memory.specs.declared.state.Current.{Current}
+use Rattle.memory.specs.declared.state.Members.{Members}
 use Rattle.memory.specs.declared.state.State.{State}
-use Rattle.memory.specs.Parent.{main}
+use Rattle.memory.specs.Parent.{main, outer, isHost}
+use Rattle.memory.proofs.Parents.{held}
 use Rattle.memory.specs.State.{start, shapeFor}
 use Rattle.kinds.specs.Headed.{Chunked}
 use Rattle.layers.specs.Layers.{isAwaited}
 use Rattle.block.specs.Step.{stepAt}
-use Rattle.block.proofs.Stepped.{FaultOf, an-image's, a-palette's, a-layer's, a-code's, a-plane's, Stepped, stopped, named}
+use Rattle.block.proofs.Stepped.{FaultOf, an-image's, a-palette's, a-layer's, a-code's, a-plane's, a-selection's, an-alpha's, Stepped, stopped, named}
 use Rattle.block.proofs.Owed.{moves}
 use Rattle.listing.specs.Listing.{beyond, listed}
-use Rattle.listing.specs.Right.{isBank, isLayer, savedOf, shapeIn}
-use Rattle.listing.proofs.StateMeaning.{CameTo, fresh, begun, Underway, kept, looked, depth-is, depth-good, not-first, awaited, shape-is}
+use Rattle.listing.specs.Right.{depthOf, layerFrom, selectionFrom, alphaFrom, faultIn, savedIn, shapeIn}
+use Rattle.listing.proofs.Holding.{InBank, InHost}
+use Rattle.listing.proofs.StateMeaning.{layers-no-mask, alphas-no-mask, CameTo, fresh, begun, Underway, kept, looked, depth-is, depth-good, not-first, open-bank, Hosts, hosts, awaited, shape-is}
 use Rattle.promises.specs.EveryInput.{Exact, header, blocks}
-use Rattle.promises.specs.WhichField.{chunkOf, Inside, Named, of-image, of-palette, of-layer, of-codes, of-plane, WhichField, Later, LaterNamed}
+use Rattle.promises.specs.WhichField.{chunkOf, Inside, Named, of-image, of-palette, of-layer, of-selection, of-alpha, of-codes, of-plane, WhichField, Later, LaterNamed}
 use Rattle.promises.proofs.EveryInput.{head-number, listed-exact}
 
 -- the look that has a listing refuse
@@ -64,65 +71,83 @@ refusing why z (said at-end all enough) = let x : _≡_ {A = ℕ} 0 1 = cc in ab
 refusing why z (said (by-rule {r} {p}) all enough) = let same : r ≡ why = cc in ap (λ (q : Refusal). Stop q p) same
 refusing why z (full e finds count) = let x : _≡_ {A = ℕ} 0 1 = cc in absurd (omega arith)
 
--- the planes of a permitted layer are within the limits
-limited : (depth : ℕ) (c : LayerChunk) → layerFault depth c ≡ None → isDepth depth ≡ true → (bitmap : ℕ) → Limited (shapeIn c depth bitmap)
-limited depth c permitted good bitmap =
-    let rules = layer-rules depth c permitted in
-    let within : (side : Rect → ℕ) → side (c .mask .saved) ≤ sideLimit → side (c .image .saved) ≤ sideLimit → side (savedOf c bitmap) ≤ sideLimit =
-    λ side mask image. pick-ind (λ (r : Rect). side r ≤ sideLimit) (eqb bitmap 2) _ _ (λ _. mask) (λ _. image) in
+-- the planes of what holds channels are within the limits
+limited : (s : List ℕ) (p : Parent) (place : ℕ) → isHost p ≡ true → faultIn s p place ≡ None → isDepth (depthOf s) ≡ true → (bitmap : ℕ) → Limited (shapeIn s p place bitmap)
+limited s p place host permitted good bitmap =
+    let sized = saved p host permitted in
     record {
       few =
           pick-ind (λ (n : ℕ). n ≤ 8) (eqb bitmap 0) _ _
-          (λ _. four (λ (d : ℕ). cond (ltb d 24) d 8 ≤ 8) (omega arith) (omega arith) (omega arith) (omega arith) depth good) (λ _. omega arith);
-      wide = within widthOf (rules .saved-mask .width) (rules .saved-image .width);
-      high = within heightOf (rules .saved-mask .height) (rules .saved-image .height);
+          (λ _. four (λ (d : ℕ). cond (ltb d 24) d 8 ≤ 8) (omega arith) (omega arith) (omega arith) (omega arith) (depthOf s) good) (λ _. omega arith);
+      wide = sized .width;
+      high = sized .height;
     }
+  where
+    saved : (p : Parent) → isHost p ≡ true → faultIn s p place ≡ None → Sized (savedIn s p place bitmap)
+    saved Layer really good =
+        let rules = layer-rules (depthOf s) (layerFrom s place) good in
+        pick-ind Sized (eqb bitmap 2) _ _ (λ _. rules .saved-mask) (λ _. rules .saved-image)
+    saved Selection really good = mask-rules 0 (selectionFrom s place .mask) good .saved
+    saved Alpha really good = mask-rules 256 (alphaFrom s place .mask) good .saved
+    saved Main really good = never really
+    saved Bank really good = never really
+    saved AlphaBank really good = never really
 
 module _ (s : List ℕ) where
   whole : {at id size : ℕ} → Chunked s at id size → size ≤ length (chunkOf s at size)
   whole {at} {size} j = omega (arith, part-length s (at + blockHeaderSize) size (j .present))
 
-  in-bank : {es : List Entry} {st : State} (u : Underway s 1 es st) → let i = u .in-bank (λ z. absurd (omega arith)) in Inside isBank 0 es (i .bank) (i .layers)
-  in-bank u = let i = u .in-bank (λ z. absurd (omega arith)) in record { held-by = i .last; is = i .is-bank }
+  in-bank : {o : Open} {es : List Entry} {m : Members} (i : InBank s o es m) → Inside (outer o) 0 es (i .bank) (i .members)
+  in-bank i = record { held-by = i .last; is = i .is-bank }
 
-  module _ {es : List Entry} {st : State} (u : Underway s 0 es st) where
-    in-layer : let i = u .in-layer refl in Inside isLayer 1 es (i .layer) (i .channels)
-    in-layer = let i = u .in-layer refl in record { held-by = i .last; is = i .is-layer }
+  in-host : {level : ℕ} {p : Parent} {es : List Entry} {l : Current} (i : InHost s level p es l) → Inside p level es (i .host) (i .channels)
+  in-host i = record { held-by = i .last; is = i .is-host }
 
-    -- a plane length that is not permitted, by the shape that the layer's own chunk gives
-    plane-named :
-        {at offset : ℕ} → Chunked s at 5 channelSize
-        → let c = channelAt s (at + blockHeaderSize) in
-        codesFault c ≡ None → isAwaited st c ≡ true → planeFault (shapeFor (st .layer) (st .image .depth) (c .bitmap)) c ≡ At offset → Named s es at offset
-    plane-named {at} {offset} j codes waited bad =
-        let c = channelAt s (at + blockHeaderSize) in
-        of-plane j in-layer (record { permitted = codes-rules c codes; awaited = awaited s u c waited at })
-        (plane-names _ (limited _ _ (u .in-layer refl .permitted) (depth-good s u) (c .bitmap)) _ (whole j) _ (subst (λ (f : Shape). planeFault f c ≡ At offset) (shape-is s u c waited at) bad))
+  -- a plane length that is not permitted, by the shape that the parent's own chunk gives
+  plane-named :
+      {levels at offset : ℕ} {es : List Entry} {st : State} {p : Parent} → Underway s levels es st → Hosts s levels es st p → isHost p ≡ true
+      → Chunked s at 5 channelSize
+      → let c = channelAt s (at + blockHeaderSize) in
+      0 < st .current .left → codesFault c ≡ None → isAwaited st p c ≡ true
+      → planeFault (shapeFor (st .current) (st .image .depth) (c .bitmap)) c ≡ At offset → Named s es at offset
+  plane-named {at} {offset} {p} u h host j room codes waited bad =
+      let c = channelAt s (at + blockHeaderSize) in
+      let i = h .host in
+      of-plane j host (in-host i) (record { permitted = codes-rules c codes; awaited = awaited s u h host c room waited at })
+      (plane-names _ (limited s p (i .host .block .place) host (i .permitted) (depth-good s u) (c .bitmap)) _ (whole j) _
+      (subst (λ (f : Shape). planeFault f c ≡ At offset) (shape-is s u h host c room waited at) bad))
 
   -- a fault, by what the walk knows there
-  fault-named : {levels at end offset : ℕ} {es : List Entry} {st : State} → CameTo s levels at es st → FaultOf s st at end levels offset → Named s es at offset
-  fault-named fresh (an-image's j none bad) = of-image j refl (image-names _ (whole j) _ bad)
-  fault-named fresh (a-palette's j b used bad) = absurd (b refl)
-  fault-named fresh (a-layer's j b deep bad) = absurd (b refl)
-  fault-named fresh (a-code's j b deepest bad) = absurd (b refl)
-  fault-named fresh (a-plane's j b deepest codes waited bad) = absurd (b refl)
-  fault-named (begun u) (an-image's j none bad) = absurd (not-first s u none)
-  fault-named {at} {offset} (begun u) (a-palette's j b used bad) =
+  fault-named :
+      {levels at end offset : ℕ} {es : List Entry} {st : State} → levels ≤ main → CameTo s levels at es st → FaultOf s st at end levels offset
+      → Named s es at offset
+  fault-named low fresh (an-image's j none bad) = of-image j refl (image-names _ (whole j) _ bad)
+  fault-named low fresh (a-palette's j b used bad) = absurd (b refl)
+  fault-named low fresh (a-layer's j b deep is bad) = absurd (b refl)
+  fault-named low fresh (a-code's j b host bad) = absurd (b refl)
+  fault-named low fresh (a-plane's j b host room codes waited bad) = absurd (b refl)
+  fault-named low fresh (a-selection's j b top bad) = absurd (b refl)
+  fault-named low fresh (an-alpha's j b deep is bad) = absurd (b refl)
+  fault-named low (begun u) (an-image's j none bad) = absurd (not-first s u none)
+  fault-named {at} {offset} low (begun u) (a-palette's j b used bad) =
       of-palette j (λ z. used (depth-is s u ∙ z))
       (palette-names _ _ (whole j) _ (subst (λ (d : ℕ). paletteFault d (paletteAt s (at + blockHeaderSize)) ≡ At offset) (depth-is s u) bad))
-  fault-named {at} {offset} {es} {st} (begun u) (a-layer's j b deep bad) =
-      of-layer j (in-bank (subst (λ (l : ℕ). Underway s l es st) deep u))
+  fault-named {at} {offset} {es} {st} low (begun u) (a-layer's j b deep is bad) =
+      of-layer j (in-bank (open-bank s (subst (λ (l : ℕ). Underway s l es st) deep u) opens.Layers is layers-no-mask))
       (layer-names _ _ (whole j) _ (subst (λ (d : ℕ). layerFault d (layerAt s (at + blockHeaderSize)) ≡ At offset) (depth-is s u) bad))
-  fault-named {es} {st} (begun u) (a-code's j b deepest bad) =
-      of-codes j (in-layer (subst (λ (l : ℕ). Underway s l es st) deepest u)) (codes-names _ (whole j) _ bad)
-  fault-named {es} {st} (begun u) (a-plane's j b deepest codes waited bad) =
-      plane-named (subst (λ (l : ℕ). Underway s l es st) deepest u) j codes waited bad
+  fault-named low (begun u) (a-selection's j b top bad) = of-selection j (selection-names _ (whole j) _ bad)
+  fault-named {es} {st} low (begun u) (an-alpha's j b deep is bad) =
+      of-alpha j (in-bank (open-bank s (subst (λ (l : ℕ). Underway s l es st) deep u) opens.Alphas is alphas-no-mask)) (alpha-names _ (whole j) _ bad)
+  fault-named {levels} {st} low (begun u) (a-code's j b host bad) =
+      of-codes j host (in-host (hosts s u (held (st .opened) levels low) host .host)) (codes-names _ (whole j) _ bad)
+  fault-named {levels} {st} low (begun u) (a-plane's j b host room codes waited bad) =
+      plane-named u (hosts s u (held (st .opened) levels low) host) host j room codes waited bad
 
   stop-named :
-      {levels at end p : ℕ} {es : List Entry} {st : State} → CameTo s levels at es st → Tiles fileHeaderSize es at
+      {levels at end p : ℕ} {es : List Entry} {st : State} → levels ≤ main → CameTo s levels at es st → Tiles fileHeaderSize es at
       → Stepped s st at end levels (Stop WrongField p) → WhichField s es p
-  stop-named came tiles (stopped low other) = never (sym other)
-  stop-named {at} came tiles (named {offset} f) = record { at = at; behind = tiles; offset = offset; is = refl; named = fault-named came f }
+  stop-named small came tiles (stopped low other) = never (sym other)
+  stop-named {at} small came tiles (named {offset} f) = record { at = at; behind = tiles; offset = offset; is = refl; named = fault-named small came f }
 
   -- an input that is refused with 8: the place is that of the field whose rule fails, and those that are judged before it satisfy theirs
   pub which-field : (room : ℕ) → answerNumber (listed s room .answer) ≡ 8 → WhichField s (listed s room .entries) (listed s room .place)
@@ -132,7 +157,7 @@ module _ (s : List ℕ) where
       by z (header bad) = absurd (omega (arith, head-number s, ap answerNumber z))
       by z (blocks good x) =
           let came = course-keeps main (length s) (stepAt s) (moves s) (CameTo s) (kept s) start fileHeaderSize beyond main (omega arith) (omega arith) fresh (x .course) in
-          stop-named came (x .tiles) (looked s (omega arith) (refusing WrongField z (x .answered)))
+          stop-named (omega arith) came (x .tiles) (looked s (omega arith) (refusing WrongField z (x .answered)))
 
 -- of request (vi)'s pairs the later field is named
 pub later-named : LaterNamed
@@ -141,6 +166,8 @@ later-named = record {
   layer = λ depth.
       let rule = layerRule depth in
       both (at rule 273 (λ c. refl)) (both (at rule 310 (λ c. refl)) (both (at rule 373 (λ c. refl)) empty));
+  selection = at selectionRule 16 (λ c. refl);
+  alpha = at alphaRule 272 (λ c. refl);
 }
   where
     at : (rule : List ℕ → List Field) (place : ℕ) → ((chunk : List ℕ) → starts place (rule chunk) ≡ true) → Later rule place

@@ -19,11 +19,14 @@ use Rattle.psp.proofs.planes.psp_pack.Reads as pack
 use Rattle.psp.proofs.planes.psp_read_plane.Reads as read-plane
 use Rattle.psp.proofs.planes.psp_unpack.Reads as unpack
 use Rattle.psp.proofs.recorded.psp_list_records as list-records
+use Rattle.psp.proofs.shown.psp_alpha_name.Reads as alpha-name
 use Rattle.psp.proofs.shown.psp_dots_per_centimetre.Reads as dots
 use Rattle.psp.proofs.shown.psp_name.Reads as name
 use Rattle.psp.proofs.shown.psp_palette.Reads as palette
+use Rattle.psp.proofs.shown.psp_read_alpha_facts.Reads as alpha-facts
 use Rattle.psp.proofs.shown.psp_read_image_facts.Reads as image-facts
 use Rattle.psp.proofs.shown.psp_read_layer_facts.Reads as layer-facts
+use Rattle.psp.proofs.shown.psp_read_selection_facts.Reads as selection-facts
 use Rattle.psp.proofs.tabled.psp_count.Reads as count
 use Rattle.psp.proofs.tabled.psp_list.Reads as list
 use Rattle.psp.proofs.version.psp_version.Reads as version
@@ -89,6 +92,15 @@ psp-read-image-facts-one l a y z e f = one
 
 pub psp-read-layer-facts-one : OneResult layer-facts.Learnt
 psp-read-layer-facts-one l a y z e f = one
+
+pub psp-read-selection-facts-one : OneResult selection-facts.Learnt
+psp-read-selection-facts-one l a y z e f = one
+
+pub psp-read-alpha-facts-one : OneResult alpha-facts.Learnt
+psp-read-alpha-facts-one l a y z e f = one
+
+pub psp-alpha-name-one : OneResult alpha-name.Learnt
+psp-alpha-name-one l a y z e f = one
 
 pub psp-dots-per-centimetre-one : OneResult dots.Learnt
 psp-dots-per-centimetre-one l a y z e f = one

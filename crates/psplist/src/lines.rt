@@ -84,6 +84,9 @@ fn kind(id: u32) {
         2 => text(b" palette"),
         3 => text(b" bank"),
         4 => text(b" layer"),
+        6 => text(b" selection"),
+        7 => text(b" alphabank"),
+        8 => text(b" alpha"),
         _ => text(b" channel"),
     }
 }
@@ -102,6 +105,7 @@ fn own(e: Entry) {
         2 => content(e),
         4 => number(e.layer),
         5 => channel(e),
+        8 => number(e.layer),
         _ => {}
     }
 }

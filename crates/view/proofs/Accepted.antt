@@ -2,7 +2,7 @@
 use mathlib.Core.Path.{_≡_, refl, sym, ap, subst⁻¹, _∙_}
 use mathlib.Core.Bool.{Bool, true, false, and-comm}
 use mathlib.Core.List.{List}
-use Prim.Native.Nat.{ℕ}
+use Prim.Native.Nat.{ℕ, _+_, _≤_}
 use native.Mathlib.Omega.{arith}
 use borrow.Author.Tests.{eqb-false, ltb-true, ltb-false}
 use lib.Dec.{eqb, ltb}
@@ -22,14 +22,17 @@ use Rattle.listing.specs.Question.{question, isAsked, foundIn}
 use Rattle.listing.specs.Listing.{listed}
 use Rattle.listing.specs.Right.{isKind, imageIn, depthOf, ImageRight, PaletteRight, LayerRight, Right}
 use Rattle.listing.proofs.RightEntries.{each-right, accepted-complete}
-use Rattle.view.specs.Asked.{layerAsked, paletteAsked, asked, isThere}
+use Rattle.chunk.specs.LayerInformation.{layerSize}
+use Rattle.view.specs.declared.sought.Sought.the-variants.{At}
+use Rattle.view.specs.Asked.{layerAsked, paletteAsked, asked, isThere, layerSought}
+use Rattle.view.proofs.Asked.{sought-at}
 
 -- ### A question, and the kinds of entries
 
-kind : (id index : ℕ) (e : Entry) → isAsked (question id 0 index) e ≡ isKind id e
+pub kind : (id index : ℕ) (e : Entry) → isAsked (question id 0 index) e ≡ isKind id e
 kind id index e = and-comm (eqb (e .block .id) id) (eqb (e .block .skipped) 0)
 
-so-many : (id index : ℕ) (es : List Entry) → length (filter (isAsked (question id 0 index)) es) ≡ length (filter (isKind id) es)
+pub so-many : (id index : ℕ) (es : List Entry) → length (filter (isAsked (question id 0 index)) es) ≡ length (filter (isKind id) es)
 so-many id index es = ap (λ (l : List Entry). length l) (filter-alike _ _ es (kind id index))
 
 below : (d : ℕ) → isDepth d ≡ true → (d ≡ 24 → ⊥) → ltb d 24 ≡ true
@@ -72,6 +75,10 @@ module _ (s : List ℕ) (room : ℕ) where
     layer-number =
         let l = found-listed (layerAsked k) there in
         ap (λ (e : Entry). e .layer) (layer-has .is) ∙ sym (so-many 4 k (l .before)) ∙ l .index
+
+  -- a layer's chunk that was found lies inside the input
+  pub layer-inside : (k : ℕ) {at : ℕ} → layerSought s room k ≡ At at → at + layerSize ≤ length s
+  layer-inside k e = let found = sought-at s room 4 45 k e in omega (arith, layer-has k (found .0) .inside, found .1)
 
   -- ### Where the input is accepted
 

@@ -3,6 +3,7 @@ use mathlib.Core.Path.{_≡_, ap, subst, _∙_}
 use mathlib.Core.Bool.{true, false}
 use mathlib.Core.List.{List}
 use Prim.Native.Nat.{ℕ, _≤_, _<_}
+use native.Mathlib.Omega.{arith}
 use borrow.Author.Tests.{lt-ltb, le-ltb}
 use Rattle.laws.proofs.Choice.{pick-yes, pick-no, pick-ind}
 use Rattle.laws.proofs.OneOutcome.{answer-one}
@@ -16,7 +17,10 @@ use Rattle.answer.proofs.OneOutcome.{answerOf, answer-back}
 use Rattle.listing.specs.declared.question.Question.{Question}
 use Rattle.listing.specs.declared.question.Found.{Found}
 use Rattle.listing.specs.Listing.{listed, told}
-use Rattle.view.specs.Asked.{layerAsked, asked, isThere, ofAccepted, layerPlace, ofLayer}
+use Rattle.listing.specs.Question.{question}
+use Rattle.view.specs.declared.sought.Sought.{Sought}
+use Rattle.view.specs.declared.sought.Sought.the-variants.{Refused, At}
+use Rattle.view.specs.Asked.{asked, isThere, ofAccepted, chunkPlace, chunkSought}
 
 -- ### What the code's listing leaves
 
@@ -56,26 +60,36 @@ module _ {A : Type 0} (refused : ℕ → A) (s : List ℕ) (room : ℕ) where
   unfolding ofAccepted
   accepted-ind P shown = pick-ind P _ _ _
 
-  module _ (k : ℕ) (shown : ℕ → A) where
-    pub layer-shown :
-        isAccepted (listed s room .answer) ≡ true → isThere (layerAsked k) s room ≡ true
-        → ofLayer refused s room k shown ≡ shown (layerPlace s room k)
-    unfolding ofLayer
-    layer-shown good there = accepted-shown _ good ∙ pick-yes _ _ _ there
+-- ### A chunk that is sought
 
-    pub layer-missing :
-        isAccepted (listed s room .answer) ≡ true → isThere (layerAsked k) s room ≡ false → ofLayer refused s room k shown ≡ refused 45
-    unfolding ofLayer
-    layer-missing good none = accepted-shown _ good ∙ pick-no _ _ _ none
+module _ (s : List ℕ) (room id none k : ℕ) where
+  pub sought-there :
+      isAccepted (listed s room .answer) ≡ true → isThere (question id 0 k) s room ≡ true
+      → chunkSought s room id none k ≡ At (chunkPlace (question id 0 k) s room)
+  unfolding chunkSought
+  sought-there good there = accepted-shown _ s room _ good ∙ pick-yes _ _ _ there
 
-    pub layer-refused :
-        isAccepted (listed s room .answer) ≡ false → ofLayer refused s room k shown ≡ refused (answerNumber (listed s room .answer))
-    unfolding ofLayer
-    layer-refused = accepted-refused _
+  pub sought-missing :
+      isAccepted (listed s room .answer) ≡ true → isThere (question id 0 k) s room ≡ false → chunkSought s room id none k ≡ Refused none
+  unfolding chunkSought
+  sought-missing good missing = accepted-shown _ s room _ good ∙ pick-no _ _ _ missing
 
-    pub layer-ind :
-        (P : A → Type 0) → (isAccepted (listed s room .answer) ≡ true → isThere (layerAsked k) s room ≡ true → P (shown (layerPlace s room k)))
-        → (isAccepted (listed s room .answer) ≡ true → P (refused 45))
-        → (isAccepted (listed s room .answer) ≡ false → P (refused (answerNumber (listed s room .answer)))) → P (ofLayer refused s room k shown)
-    unfolding ofLayer
-    layer-ind P there none other = accepted-ind P _ (λ good. pick-ind P _ _ _ (there good) (λ _. none good)) other
+  pub sought-refused :
+      isAccepted (listed s room .answer) ≡ false → chunkSought s room id none k ≡ Refused (answerNumber (listed s room .answer))
+  unfolding chunkSought
+  sought-refused = accepted-refused _ s room _
+
+  pub sought-ind :
+      (P : Sought → Type 0)
+      → (isAccepted (listed s room .answer) ≡ true → isThere (question id 0 k) s room ≡ true → P (At (chunkPlace (question id 0 k) s room)))
+      → (isAccepted (listed s room .answer) ≡ true → P (Refused none))
+      → (isAccepted (listed s room .answer) ≡ false → P (Refused (answerNumber (listed s room .answer)))) → P (chunkSought s room id none k)
+  unfolding chunkSought
+  sought-ind P there missing other = accepted-ind _ s room P _ (λ good. pick-ind P _ _ _ (there good) (λ _. missing good)) other
+
+  -- where a chunk was found, the block that was asked for is listed, and its chunk is there
+  pub sought-at :
+      {at : ℕ} → chunkSought s room id none k ≡ At at → (isThere (question id 0 k) s room ≡ true) × (at ≡ chunkPlace (question id 0 k) s room)
+  sought-at {at} =
+      sought-ind (λ (x : Sought). x ≡ At at → (isThere (question id 0 k) s room ≡ true) × (at ≡ chunkPlace (question id 0 k) s room))
+      (λ _ there e. (there, cc)) (λ _ e. let z : _≡_ {A = ℕ} 0 1 = cc in absurd (omega arith)) (λ _ e. let z : _≡_ {A = ℕ} 0 1 = cc in absurd (omega arith))

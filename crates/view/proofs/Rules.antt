@@ -15,14 +15,14 @@ use Rattle.chunk.specs.Rules.{LayerRules}
 use Rattle.chunk.proofs.Rules.{layer-rules}
 use Rattle.listing.specs.Listing.{listed}
 use Rattle.view.specs.declared.facts.ImageFacts.{ImageFacts}
-use Rattle.view.specs.declared.facts.LayerFacts.{LayerFacts}
 use Rattle.view.specs.declared.part.Part.{Part}
-use Rattle.view.specs.Asked.{paletteAsked, isThere, layerPlace}
+use Rattle.view.specs.Asked.{layerAsked, paletteAsked, isThere, chunkPlace, shownOf}
+use Rattle.view.specs.declared.sought.Sought.{Sought}
 use Rattle.view.specs.Facts.{noImageFacts, noLayerFacts, imageFacts, layerFacts}
 use Rattle.view.specs.Palette.{paletteView}
 use Rattle.view.specs.Shown.{refusal}
 use Rattle.view.proofs.Accepted.{layer-has, accepted-has, accepted-grey}
-use Rattle.view.proofs.Asked.{refused-not-zero, accepted-shown, accepted-ind, layer-ind}
+use Rattle.view.proofs.Asked.{refused-not-zero, accepted-shown, accepted-ind, sought-ind}
 
 pub image-facts-rules : (s : List ℕ) (room : ℕ) → imageFacts s room .number ≡ 0 → ImageRules (imageFacts s room .image)
 unfolding imageFacts
@@ -36,10 +36,11 @@ pub layer-facts-rules :
     (s : List ℕ) (room k : ℕ) → layerFacts s room k .number ≡ 0 → LayerRules (imageFacts s room .image .depth) (layerFacts s room k .layer)
 unfolding imageFacts layerFacts
 layer-facts-rules s room k =
-    layer-ind noLayerFacts s room k _ (λ (f : LayerFacts). f .number ≡ 0 → LayerRules (imageFacts s room .image .depth) (f .layer))
+    sought-ind s room 4 45 k
+    (λ (x : Sought). let f = shownOf noLayerFacts (λ at. record { number = 0; layer = layerAt s at }) x in f .number ≡ 0 → LayerRules (imageFacts s room .image .depth) (f .layer))
     (λ good there _.
     let depth = ap (λ (f : ImageFacts). f .image .depth) (accepted-shown noImageFacts s room _ good) in
-    subst⁻¹ (λ (d : ℕ). LayerRules d (layerAt s (layerPlace s room k))) depth (layer-rules _ _ (layer-has s room k there .permitted)))
+    subst⁻¹ (λ (d : ℕ). LayerRules d (layerAt s (chunkPlace (layerAsked k) s room))) depth (layer-rules _ _ (layer-has s room k there .permitted)))
     (λ _ z. absurd (omega arith))
     (λ bad z. absurd (refused-not-zero (listed s room .answer) bad z))
 

@@ -1,5 +1,5 @@
 -- A caller may slice by the numbers that a view gives, since the part lies in its slice; and each view leaves one outcome.
-use mathlib.Core.Path.{_≡_, ap, subst, subst⁻¹}
+use mathlib.Core.Path.{_≡_, subst, subst⁻¹}
 use mathlib.Core.List.{List}
 use Prim.Native.Nat.{ℕ, _+_, _≤_}
 use native.Mathlib.Omega.{arith}
@@ -16,20 +16,22 @@ use Rattle.laws.proofs.Part.{part-length}
 use Rattle.headers.specs.Places.{imageChunkPlace}
 use Rattle.attributes.specs.ImageAttributes.{imageAt}
 use Rattle.view.specs.declared.part.Part.{Part}
-use Rattle.view.specs.Asked.{paletteAsked, isThere, layerPlace}
-use Rattle.view.specs.Name.{beforeZero, nameView, NameShown}
+use Rattle.view.specs.Asked.{paletteAsked, isThere, shownOf}
+use Rattle.view.specs.declared.sought.Sought.{Sought}
+use Rattle.view.specs.Name.{nameAt, nameView}
 use Rattle.view.specs.Palette.{paletteView, Shows, PaletteShown}
-use Rattle.view.specs.Shown.{refusal, Slice, PartOf}
+use Rattle.view.specs.Shown.{refusal, Slice, PartOf, ShownAs}
 use Rattle.view.proofs.Accepted.{palette-has, layer-has}
-use Rattle.view.proofs.Asked.{accepted-ind, layer-ind}
+use Rattle.view.proofs.Asked.{accepted-ind, sought-ind}
 use Rattle.view.proofs.Place.{Same, taken, part-of, part-one}
-use Rattle.view.proofs.Zero.{name-field, zero-most}
+use Rattle.view.proofs.Zero.{zero-most}
 use Rattle.view.proofs.facts.image_facts.Reads as image-facts
 use Rattle.view.proofs.facts.layer_facts.Reads as layer-facts
 use Rattle.view.proofs.layer_name.name.Reads as name
 use Rattle.view.proofs.layer_name.name_part.Reads as name-part
 use Rattle.view.proofs.palette_view.palette.Reads as palette
 use Rattle.view.proofs.palette_view.palette_part.Reads as palette-part
+use Rattle.view.proofs.sought.seek_chunk.Reads as seek-chunk
 
 -- ### A part lies in its slice
 
@@ -54,15 +56,16 @@ palette-lies s room ramp =
     (λ _. pick-ind P (eqb ramp 1024) _ _ (λ long. omega (arith, eqb-true ramp 1024 long)) (λ _. omega arith))))
     (λ _. omega arith)
 
--- a name is always of the input
+-- a name is always of the input, where the chunk that it begins lies inside
+pub named-lies : (s : List ℕ) (at : ℕ) → at + 256 ≤ length s → nameAt s at .start + nameAt s at .length ≤ length s
+unfolding nameAt
+named-lies s at inside = omega (arith, zero-most (part s at 256), part-length s at 256 inside)
+
 pub name-lies : (s : List ℕ) (room k : ℕ) → nameView s room k .start + nameView s room k .length ≤ length s
 unfolding nameView
 name-lies s room k =
-    layer-ind refusal s room k _ (λ (p : Part). p .start + p .length ≤ length s)
-    (λ _ there.
-    let at = layerPlace s room k in
-    let inside = layer-has s room k there .inside in
-    omega (arith, inside, ap beforeZero (name-field s at), zero-most (part s at 256), part-length s at 256 (omega (arith, inside))))
+    sought-ind s room 4 45 k (λ (x : Sought). let p = shownOf refusal (nameAt s) x in p .start + p .length ≤ length s)
+    (λ _ there. named-lies s _ (omega (arith, layer-has s room k there .inside)))
     (λ _. omega arith)
     (λ _. omega arith)
 
@@ -108,18 +111,21 @@ palette-part-one l a y z e f = one
 
 -- ### A name
 
-module _ (input : Slice) (room k : ℕ) (p : Part) (is : p ≡ nameView (input .now) room k) where
-  pub name-is : {number : ℕ} {r : Slice} → number ≡ p .number → PartOf input (p .start) (p .length) r → NameShown input room k number r
-  name-is {number} {r} n shows = record {
-    told = subst (λ (x : Part). number ≡ x .number) is n;
-    is = subst (λ (x : Part). PartOf input (x .start) (x .length) r) is shows;
-  }
+-- of the numbers that a call gave
+pub shown-is :
+    (input : Slice) {p q : Part} {number : ℕ} {r : Slice} → p ≡ q → number ≡ p .number → PartOf input (p .start) (p .length) r → ShownAs input q number r
+shown-is input {number} {r} is n shows = subst (λ (x : Part). ShownAs input x number r) is (record { told = n; is = shows })
+
+-- and these leave one outcome
+pub shown-one :
+    (input : Slice) (p : Part) {number number' : ℕ} (r r' : Slice) → ShownAs input p number r → ShownAs input p number' r' → seen number r ≡ seen number' r'
+shown-one input p r r' x y = seen-one r r' (one (x .told) (y .told)) (part-one _ _ _ r r' (x .is) (y .is))
 
 pub name-inside : (s : List ℕ) (room k : ℕ) (p : Part) → p ≡ nameView s room k → p .start + p .length ≤ length s
 name-inside s room k p is = subst⁻¹ (λ (x : Part). x .start + x .length ≤ length s) is (name-lies s room k)
 
 pub name-one : OneFixed (λ l r e. seen (now (e .1 .1 .1 .0)) r) name.Learnt
-name-one l a y z e f p q = seen-one y z (one (p .told) (q .told)) (part-one _ _ _ y z (p .is) (q .is))
+name-one l a y z e f = shown-one _ _ y z
 
 pub name-part-one : OneResult name-part.Learnt
 name-part-one l a y z e f = one
@@ -131,3 +137,6 @@ image-facts-one l a y z e f = one
 
 pub layer-facts-one : OneResult layer-facts.Learnt
 layer-facts-one l a y z e f = one
+
+pub seek-chunk-one : OneResult seek-chunk.Learnt
+seek-chunk-one l a y z e f = one

@@ -8,11 +8,10 @@ use native.Mathlib.Numerals.{add-one}
 use borrow.Author.Tests.{eq-eqb, ne-eqb}
 use lib.Dec.{eqb}
 use lib.ListN.{length, take, drop, getD, drop-of-length-le}
-use lib.Seq.{drop-cons, take-take}
+use lib.Seq.{drop-cons}
 use Rattle.laws.specs.Lists.{part}
 use Rattle.laws.proofs.Choice.{pick-yes, pick-no, pick-ind}
 use Rattle.laws.proofs.Part.{lent}
-use Rattle.chunk.specs.LayerInformation.{layerOf, layerAt}
 use Rattle.view.specs.Name.{beforeZero}
 
 pub zero-most : (l : List ℕ) → beforeZero l ≤ length l
@@ -50,12 +49,6 @@ module _ (l : List ℕ) where
         let none : beforeZero (drop n l) ≡ 0 = ap beforeZero (drop-of-length-le l {i = n} h) in
         omega (arith, p .counts)
 
--- a layer chunk begins with its name
-pub name-field : (s : List ℕ) (at : ℕ) → layerAt s at .name ≡ part s at 256
-unfolding layerOf part
-name-field s at = take-take 256 375 (drop at s) (omega arith)
-
 -- what is counted of `&s[at..at + 256]`
-module _ (s : List ℕ) (at n : ℕ) (e : n ≡ beforeZero (take (at + 256 - at) (drop at s))) where
-  pub name-length : n ≡ beforeZero (layerAt s at .name)
-  name-length = e ∙ ap beforeZero (lent s at 256 ∙ sym (name-field s at))
+pub name-length : (s : List ℕ) (at : ℕ) → beforeZero (take (at + 256 - at) (drop at s)) ≡ beforeZero (part s at 256)
+name-length s at = ap beforeZero (lent s at 256)

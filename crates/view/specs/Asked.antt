@@ -10,6 +10,8 @@ use Rattle.listing.specs.declared.question.Question.{Question}
 use Rattle.listing.specs.declared.question.Found.{Found}
 use Rattle.listing.specs.Listing.{listed}
 use Rattle.listing.specs.Question.{question, foundIn}
+use Rattle.view.specs.declared.sought.Sought.{Sought}
+use Rattle.view.specs.declared.sought.Sought.the-variants.{Refused, At}
 
 -- ### Questions
 
@@ -36,11 +38,20 @@ unfoldable pub ofAccepted : {A : Type 0} → (ℕ → A) → List ℕ → ℕ �
 ofAccepted refused s room shown =
     pick (isAccepted (listed s room .answer)) shown (refused (answerNumber (listed s room .answer)))
 
--- where the chunk of layer k is, in what is listed
-abbrev pub layerPlace : List ℕ → ℕ → ℕ → ℕ
-layerPlace s room k = asked (layerAsked k) s room .entry .block .place + blockHeaderSize
+-- where the chunk of what was asked for is
+abbrev pub chunkPlace : Question → List ℕ → ℕ → ℕ
+chunkPlace q s room = asked q s room .entry .block .place + blockHeaderSize
 
--- what is shown of that chunk, by its place. 45: no layer k
-unfoldable pub ofLayer : {A : Type 0} → (ℕ → A) → List ℕ → ℕ → ℕ → (ℕ → A) → A
-ofLayer refused s room k shown =
-    ofAccepted refused s room (pick (isThere (layerAsked k) s room) (shown (layerPlace s room k)) (refused 45))
+-- the chunk of the k-th block of an id, or a refusal's number: the listing's own; then `none`, where there is no such block
+unfoldable pub chunkSought : List ℕ → ℕ → ℕ → ℕ → ℕ → Sought
+chunkSought s room id none k =
+    ofAccepted Refused s room (pick (isThere (question id 0 k) s room) (At (chunkPlace (question id 0 k) s room)) (Refused none))
+
+-- what is shown of a chunk by its place, or of a refusal by its number
+abbrev pub shownOf : {A : Type 0} → (ℕ → A) → (ℕ → A) → Sought → A
+shownOf refused shown (Refused number) = refused number
+shownOf refused shown (At place) = shown place
+
+-- of layer k, 45: no layer k
+abbrev pub layerSought : List ℕ → ℕ → ℕ → Sought
+layerSought s room k = chunkSought s room 4 45 k

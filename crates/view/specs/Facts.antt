@@ -6,7 +6,7 @@ use Rattle.attributes.specs.ImageAttributes.{imageAt}
 use Rattle.chunk.specs.LayerInformation.{layerAt}
 use Rattle.view.specs.declared.facts.ImageFacts.{ImageFacts}
 use Rattle.view.specs.declared.facts.LayerFacts.{LayerFacts}
-use Rattle.view.specs.Asked.{ofAccepted, ofLayer}
+use Rattle.view.specs.Asked.{ofAccepted, shownOf, layerSought}
 use Rattle.view.specs.Zeros.{noImage, noLayer}
 
 -- zeros beside a refusal's number
@@ -20,4 +20,4 @@ unfoldable pub imageFacts : List ℕ → ℕ → ImageFacts
 imageFacts s room = ofAccepted noImageFacts s room (record { number = 0; image = imageAt s imageChunkPlace })
 
 unfoldable pub layerFacts : List ℕ → ℕ → ℕ → LayerFacts
-layerFacts s room k = ofLayer noLayerFacts s room k (λ at. record { number = 0; layer = layerAt s at })
+layerFacts s room k = shownOf noLayerFacts (λ at. record { number = 0; layer = layerAt s at }) (layerSought s room k)

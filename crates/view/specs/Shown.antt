@@ -28,3 +28,8 @@ pub record PartOf (s : Slice) (start n : ℕ) (r : Slice) : Type 0 where
   pub block : r .ptr .0 ≡ s .ptr .0
   pub place : r .ptr .1 ≡ s .ptr .1 + start
   pub bytes : r .now ≡ part (s .now) start n
+
+-- a part of the input that is shown as these numbers say, beside its answer
+pub record ShownAs (input : Slice) (p : Part) (number : ℕ) (r : Slice) : Type 0 where
+  pub told : number ≡ p .number
+  pub is : PartOf input (p .start) (p .length) r

@@ -1,11 +1,12 @@
 // Facts are whole chunks in the caller's own record, so that C needs no decoder. Beside a refusal they are zeros.
+use crate::sought::Sought;
+use crate::sought::seek_chunk;
 use crate::zeros::no_image;
 use crate::zeros::no_layer;
 use attributes::image_attributes::ImageChunk;
 use chunk::layer_information::LayerChunk;
 use headers::block_header::BlockHeader;
 use headers::file_header::FileHeader;
-use listing::Question;
 ghost use mathlib.Core.Path.{_≡_};
 ghost use Rattle.view.specs.Facts.{imageFacts, layerFacts};
 
@@ -46,34 +47,14 @@ pub fn image_facts(input: &[u8], room: usize) -> ImageFacts
 pub fn layer_facts(input: &[u8], room: usize, k: u32) -> LayerFacts
     ensures { λ r. ⌜ r ≡ layerFacts (now (input .entry)) room k ⌝ }
 {
-    let o = listing::seek(
-        input,
-        room,
-        Question {
-            id: 4,
-            skipped: 0,
-            index: k as usize,
-        },
-    );
-    let outcome = o.outcome;
-    let answer = outcome.answer;
-    if !answer.accepted() {
-        return LayerFacts {
-            number: answer.number(),
+    match seek_chunk(input, room, 4, 45, k) {
+        Sought::Refused(number) => LayerFacts {
+            number,
             layer: no_layer(),
-        };
-    }
-    let found = o.found;
-    if (k as usize) < found.count {
-        let layer = found.entry;
-        let block = layer.block;
-        return LayerFacts {
+        },
+        Sought::At(at) => LayerFacts {
             number: 0,
-            layer: LayerChunk::decode(input, block.place as usize + BlockHeader::SIZE),
-        };
-    }
-    LayerFacts {
-        number: 45,
-        layer: no_layer(),
+            layer: LayerChunk::decode(input, at),
+        },
     }
 }

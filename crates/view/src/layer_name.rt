@@ -1,41 +1,31 @@
 // A name is shown where it stands in the input: nothing is copied, and its length is counted here.
 use crate::part::Part;
-use headers::block_header::BlockHeader;
-use listing::Question;
+use crate::sought::Sought;
+use crate::sought::seek_chunk;
 ghost use mathlib.Core.Path.{_≡_};
-ghost use Rattle.view.specs.Name.{beforeZero, nameView, NameShown};
+ghost use Prim.Native.Nat.{_+_, _≤_};
+ghost use lib.ListN.{length};
+ghost use Rattle.view.specs.Name.{beforeZero, nameAt, nameView, NameShown};
 
 // The bytes of a chunk's name field.
 const FIELD: usize = 256;
 
-// Where the bytes of layer k's name are: those of its chunk before the first zero, or all 256. The listing's own number; then 45: no
-// layer k.
+// The name that a chunk begins with, as a part of the input: its bytes before the first zero, or all 256.
+pub fn named(input: &[u8], at: usize) -> Part
+    requires { ⌜ at + 256 ≤ length (now input) ⌝ }
+    ensures { λ r. ⌜ r ≡ nameAt (now (input .entry)) at ⌝ }
+{
+    Part::of_input(at, before_zero(&input[at..at + FIELD]))
+}
+
+// Where the bytes of layer k's name are. The listing's own number; then 45: no layer k.
 pub fn name_part(input: &[u8], room: usize, k: u32) -> Part
     ensures { λ r. ⌜ r ≡ nameView (now (input .entry)) room k ⌝ }
 {
-    let o = listing::seek(
-        input,
-        room,
-        Question {
-            id: 4,
-            skipped: 0,
-            index: k as usize,
-        },
-    );
-    let outcome = o.outcome;
-    let answer = outcome.answer;
-    if !answer.accepted() {
-        return Part::refusal(answer.number());
+    match seek_chunk(input, room, 4, 45, k) {
+        Sought::Refused(number) => Part::refusal(number),
+        Sought::At(at) => named(input, at),
     }
-    let found = o.found;
-    if (k as usize) < found.count {
-        let layer = found.entry;
-        let block = layer.block;
-        let at = block.place as usize + BlockHeader::SIZE;
-        let length = before_zero(&input[at..at + FIELD]);
-        return Part::of_input(at, length);
-    }
-    Part::refusal(45)
 }
 
 // Shows that part; a refusal shows nothing, at the input's start.

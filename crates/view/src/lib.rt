@@ -6,6 +6,7 @@ mod layer_name;
 mod palette_view;
 mod part;
 mod shorten;
+mod sought;
 mod zeros;
 
 pub use facts::ImageFacts;
@@ -14,6 +15,10 @@ pub use facts::image_facts;
 pub use facts::layer_facts;
 pub use layer_name::name;
 pub use layer_name::name_part;
+pub use layer_name::named;
 pub use palette_view::palette;
 pub use palette_view::palette_part;
 pub use part::Part;
+pub use sought::Sought;
+pub use sought::seek_chunk;
+pub use zeros::no_area;

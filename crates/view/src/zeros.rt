@@ -29,7 +29,7 @@ pub fn no_image() -> ImageChunk
     }
 }
 
-fn no_area() -> Area
+pub fn no_area() -> Area
     ensures { λ r. ⌜ r ≡ noArea ⌝ }
 {
     let none = Rect {

@@ -2,8 +2,8 @@
 
 use std::os::raw::c_double;
 
-/// PSP_VERSION: 0.4.0, as major times 10,000, minor times 100, patch.
-pub const VERSION: u32 = 400;
+/// PSP_VERSION: 0.5.0, as major times 10,000, minor times 100, patch.
+pub const VERSION: u32 = 500;
 
 // Every function: all is well.
 pub const ACCEPTED: u32 = 0;
@@ -45,6 +45,8 @@ pub const PLANE_WRONG: u32 = 42;
 pub const NO_PALETTE: u32 = 43;
 pub const NO_RAMP: u32 = 44;
 pub const NO_LAYER: u32 = 45;
+pub const NO_SELECTION: u32 = 46;
+pub const NO_ALPHA: u32 = 47;
 
 // Limits.
 pub const INPUT_LIMIT: usize = 67_108_864;
@@ -53,23 +55,28 @@ pub const SIDE_LIMIT: u32 = 4_096;
 pub const LAYER_LIMIT: u32 = 64;
 pub const ENTRY_NUMBERS: usize = 14;
 
-/// An entry of the table: a block of the file. What a kind does not fill is 0.
+/// An entry of the table: a block of the file. What a kind does not fill is 0. An entry of level 1
+/// or 2 lies in the last one before it that is one level up: a channel in a layer, in the selection
+/// or in an alpha channel, which its layer number alone does not tell.
 #[repr(C)]
 #[derive(Clone, Copy, Debug, Default, PartialEq, Eq)]
 pub struct Entry {
-    /// 0 image, 2 palette, 3 bank, 4 layer, 5 channel; any id when skipped.
+    /// 0 image, 2 palette, 3 bank, 4 layer, 5 channel, 6 selection, 7 alpha bank, 8 alpha channel;
+    /// any id when skipped.
     pub id: u32,
     /// 0 or 1.
     pub skipped: u32,
-    /// 0 main, 1 in the bank, 2 in a layer.
+    /// 0 main; 1 in the bank, the selection or the alpha bank; 2 in a layer or an alpha channel.
     pub level: u32,
     /// Where the block's header starts.
     pub place: u32,
     /// Bytes owned.
     pub owned: u32,
-    /// Layers count from 0 in file order.
+    /// Layers count from 0 in file order, and alpha channels likewise; a channel has the number of
+    /// what it lies in.
     pub layer: u32,
-    /// 0 image, 1 transparency mask, 2 user mask.
+    /// In a layer 0 image, 1 transparency mask, 2 user mask; in the selection 3, in an alpha
+    /// channel 4.
     pub bitmap: u32,
     /// 0 composite, 1 red, 2 green, 3 blue.
     pub channel: u32,
@@ -205,6 +212,41 @@ pub struct LayerFacts {
     pub layer: LayerChunk,
 }
 
+/// The selection information chunk.
+#[repr(C)]
+#[derive(Clone, Copy, Debug)]
+pub struct SelectionChunk {
+    pub area: Area,
+    pub bitmaps: u16,
+    pub channels: u16,
+}
+
+/// The selection's facts, zeros when refused.
+#[repr(C)]
+#[derive(Clone, Copy, Debug)]
+pub struct SelectionFacts {
+    pub number: u32,
+    pub selection: SelectionChunk,
+}
+
+/// The alpha channel information chunk.
+#[repr(C)]
+#[derive(Clone, Copy, Debug)]
+pub struct AlphaChunk {
+    pub name: [u8; 256],
+    pub area: Area,
+    pub bitmaps: u16,
+    pub channels: u16,
+}
+
+/// An alpha channel's facts, zeros when refused.
+#[repr(C)]
+#[derive(Clone, Copy, Debug)]
+pub struct AlphaFacts {
+    pub number: u32,
+    pub alpha: AlphaChunk,
+}
+
 /// Dots per centimetre, where there are any.
 #[repr(C)]
 #[derive(Clone, Copy, Debug)]
@@ -262,9 +304,14 @@ extern "C" {
         ramp_length: usize,
     ) -> Part;
     pub fn psp_name(input: *const u8, length: usize, room: usize, k: u32) -> Part;
+    pub fn psp_alpha_name(input: *const u8, length: usize, room: usize, k: u32) -> Part;
     pub fn psp_read_image_facts(input: *const u8, length: usize, room: usize) -> ImageFacts;
     pub fn psp_read_layer_facts(input: *const u8, length: usize, room: usize, k: u32)
         -> LayerFacts;
+    pub fn psp_read_selection_facts(input: *const u8, length: usize, room: usize)
+        -> SelectionFacts;
+    pub fn psp_read_alpha_facts(input: *const u8, length: usize, room: usize, k: u32)
+        -> AlphaFacts;
     pub fn psp_dots_per_centimetre(value: c_double, metric: u8) -> Dots;
 }
 
@@ -287,6 +334,10 @@ mod tests {
         assert_eq!(size_of::<ImageFacts>(), 72);
         assert_eq!(size_of::<LayerChunk>(), 384);
         assert_eq!(size_of::<LayerFacts>(), 388);
+        assert_eq!(size_of::<SelectionChunk>(), 36);
+        assert_eq!(size_of::<SelectionFacts>(), 40);
+        assert_eq!(size_of::<AlphaChunk>(), 292);
+        assert_eq!(size_of::<AlphaFacts>(), 296);
         assert_eq!(size_of::<Dots>(), 16);
     }
 

@@ -8,7 +8,7 @@ pub mod ffi;
 pub mod numbers;
 pub mod refusal;
 
-pub use ffi::{Area, Entry, ImageChunk, LayerChunk, Rect, Resolution};
+pub use ffi::{AlphaChunk, Area, Entry, ImageChunk, LayerChunk, Rect, Resolution, SelectionChunk};
 pub use ffi::{ENTRY_NUMBERS, INPUT_LIMIT, LAYER_LIMIT, PLANE_LIMIT, SIDE_LIMIT};
 pub use refusal::{Refusal, RefusedListing, RefusedPlane};
 
@@ -115,6 +115,12 @@ pub fn name(input: &[u8], room: usize, k: u32) -> Result<&[u8], Refusal> {
     good(view.number, view.bytes)
 }
 
+/// Shows the name of alpha channel `k`, likewise.
+pub fn alpha_name(input: &[u8], room: usize, k: u32) -> Result<&[u8], Refusal> {
+    let view = numbers::alpha_name(input, room, k);
+    good(view.number, view.bytes)
+}
+
 /// Gives every field of the image chunk.
 pub fn image_facts(input: &[u8], room: usize) -> Result<ImageChunk, Refusal> {
     let facts = numbers::image_facts(input, room);
@@ -125,6 +131,18 @@ pub fn image_facts(input: &[u8], room: usize) -> Result<ImageChunk, Refusal> {
 pub fn layer_facts(input: &[u8], room: usize, k: u32) -> Result<LayerChunk, Refusal> {
     let facts = numbers::layer_facts(input, room, k);
     good(facts.number, facts.layer)
+}
+
+/// Gives every field of the selection's chunk.
+pub fn selection_facts(input: &[u8], room: usize) -> Result<SelectionChunk, Refusal> {
+    let facts = numbers::selection_facts(input, room);
+    good(facts.number, facts.selection)
+}
+
+/// Gives every field of the chunk of alpha channel `k`.
+pub fn alpha_facts(input: &[u8], room: usize, k: u32) -> Result<AlphaChunk, Refusal> {
+    let facts = numbers::alpha_facts(input, room, k);
+    good(facts.number, facts.alpha)
 }
 
 /// Gives the dots per centimetre of a resolution, where there are any.

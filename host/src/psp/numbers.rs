@@ -7,7 +7,8 @@
 
 use super::ffi;
 
-pub use super::ffi::{Dots, Entry, ImageFacts, LayerFacts, Listed, Packed, Plane, Rect};
+pub use super::ffi::{AlphaFacts, Dots, Entry, ImageFacts, LayerFacts, Listed};
+pub use super::ffi::{Packed, Plane, Rect, SelectionFacts};
 
 /// A part of a lent slice, empty when refused.
 #[derive(Clone, Copy, Debug, PartialEq, Eq)]
@@ -132,6 +133,13 @@ pub fn name(input: &[u8], room: usize, k: u32) -> View<'_> {
     view(input, part)
 }
 
+/// Shows the name of alpha channel `k`, likewise.
+pub fn alpha_name(input: &[u8], room: usize, k: u32) -> View<'_> {
+    // SAFETY: the slice is valid for its length, and nothing is written.
+    let part = unsafe { ffi::psp_alpha_name(input.as_ptr(), input.len(), room, k) };
+    view(input, part)
+}
+
 /// Gives every field of the image chunk.
 pub fn image_facts(input: &[u8], room: usize) -> ImageFacts {
     // SAFETY: the slice is valid for its length, and nothing is written.
@@ -142,6 +150,18 @@ pub fn image_facts(input: &[u8], room: usize) -> ImageFacts {
 pub fn layer_facts(input: &[u8], room: usize, k: u32) -> LayerFacts {
     // SAFETY: the slice is valid for its length, and nothing is written.
     unsafe { ffi::psp_read_layer_facts(input.as_ptr(), input.len(), room, k) }
+}
+
+/// Gives every field of the selection's chunk.
+pub fn selection_facts(input: &[u8], room: usize) -> SelectionFacts {
+    // SAFETY: the slice is valid for its length, and nothing is written.
+    unsafe { ffi::psp_read_selection_facts(input.as_ptr(), input.len(), room) }
+}
+
+/// Gives every field of the chunk of alpha channel `k`.
+pub fn alpha_facts(input: &[u8], room: usize, k: u32) -> AlphaFacts {
+    // SAFETY: the slice is valid for its length, and nothing is written.
+    unsafe { ffi::psp_read_alpha_facts(input.as_ptr(), input.len(), room, k) }
 }
 
 /// Gives the dots per centimetre of a resolution, where there are any.

@@ -76,6 +76,8 @@ refusals! {
     NoPalette, NO_PALETTE, "depth 24";
     NoRamp, NO_RAMP, "a ramp of another length than 1,024 would have to stand in";
     NoLayer, NO_LAYER, "k is past the last layer";
+    NoSelection, NO_SELECTION, "no selection";
+    NoAlpha, NO_ALPHA, "k is past the last alpha channel";
 }
 
 /// A listing that was refused: why, at which place of the input (a wrong field at its first byte),
@@ -130,7 +132,7 @@ mod tests {
     fn every_number_of_document_01_has_a_name() {
         let named = |number: &u32| !matches!(Refusal::of(*number), Some(Refusal::Unnamed(_)));
         let names: Vec<u32> = (0..100).filter(named).collect();
-        let numbers = (0..=12).chain(20..=27).chain(30..=31).chain(40..=45);
+        let numbers = (0..=12).chain(20..=27).chain(30..=31).chain(40..=47);
         assert_eq!(names, numbers.collect::<Vec<u32>>());
     }
 
@@ -151,7 +153,7 @@ mod tests {
             assert!(constant.ends_with(said.as_deref().unwrap_or("")));
             count += 1;
         }
-        assert_eq!(count, 29);
+        assert_eq!(count, 31);
     }
 
     #[test]
@@ -161,6 +163,8 @@ mod tests {
             assert_eq!(Refusal::of(number).map(Refusal::number), Some(number));
         }
         assert_eq!(Refusal::of(45), Some(Refusal::NoLayer));
+        assert_eq!(Refusal::of(46), Some(Refusal::NoSelection));
+        assert_eq!(Refusal::of(47), Some(Refusal::NoAlpha));
     }
 
     #[test]

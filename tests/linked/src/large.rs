@@ -27,11 +27,14 @@ pub fn each(mut give: impl FnMut(Case)) {
     planes_over(&mut give);
 }
 
-/// Accepted files of the limit's length and one more: the last block, which is
-/// skipped, fills them. And nothing but zeros.
+/// Accepted files of the limit's length and one more, with two layers, a
+/// selection and two alpha channels: the last block, which is skipped, fills
+/// them. And nothing but zeros.
 fn inputs(give: &mut impl FnMut(Case)) {
     for length in [INPUT - 1, INPUT, INPUT + 1] {
         let mut tree = samples::skips().tree();
+        tree.blocks
+            .extend(samples::alphas().tree().blocks.drain(2..));
         let filled = length - tree.bytes().len() - 14;
         tree.blocks.push(Node::new(12, 0, vec![1; filled]));
         let room = 64;

@@ -4,7 +4,7 @@
 use psp::{ffi, numbers};
 use reference::case::{Placing, Stored};
 use reference::library::{Library, Listed, Record};
-use reference::psp::chunks::{ImageChunk, LayerChunk, Resolution};
+use reference::psp::chunks::{AlphaChunk, ImageChunk, LayerChunk, Resolution, SelectionChunk};
 use reference::psp::planes::PlaneAnswer;
 use reference::psp::rectangle::Rectangle;
 use reference::psp::views::{Lender, PaletteView};
@@ -140,6 +140,23 @@ fn layer_chunk(layer: &ffi::LayerChunk) -> LayerChunk {
     }
 }
 
+fn selection_chunk(area: &ffi::Area, bitmaps: u16, channels: u16) -> SelectionChunk {
+    SelectionChunk {
+        border: to_rectangle(area.border),
+        saved: to_rectangle(area.saved),
+        bitmaps,
+        channels,
+    }
+}
+
+/// The numbers of a part, which a slice would not show; the slice has to be what
+/// they say.
+fn name(part: ffi::Part, shown: &[u8], input: &[u8]) -> (u32, u64, u64) {
+    assert_eq!(part.which, 0, "a name is a part of the input");
+    assert_eq!(shown, &input[part.start..][..part.length], "the name");
+    (part.number, part.start as u64, part.length as u64)
+}
+
 impl Library for Linked {
     fn list(&self, input: &[u8], table: &mut [u32]) -> Listed {
         listed(numbers::list(input, table))
@@ -218,10 +235,35 @@ impl Library for Linked {
     fn layer_name(&self, input: &[u8], room: usize, k: u32) -> (u32, u64, u64) {
         // SAFETY: the slice is valid for its length, and nothing is written.
         let part = unsafe { ffi::psp_name(input.as_ptr(), input.len(), room, k) };
-        assert_eq!(part.which, 0, "a name is a part of the input");
-        let shown = numbers::name(input, room, k).bytes;
-        assert_eq!(shown, &input[part.start..][..part.length], "the name");
-        (part.number, part.start as u64, part.length as u64)
+        name(part, numbers::name(input, room, k).bytes, input)
+    }
+
+    fn selection_facts(&self, input: &[u8], room: usize) -> (u32, SelectionChunk) {
+        let facts = numbers::selection_facts(input, room);
+        let ffi::SelectionChunk {
+            area,
+            bitmaps,
+            channels,
+        } = facts.selection;
+        (facts.number, selection_chunk(&area, bitmaps, channels))
+    }
+
+    fn alpha_facts(&self, input: &[u8], room: usize, k: u32) -> (u32, AlphaChunk) {
+        let facts = numbers::alpha_facts(input, room, k);
+        let ffi::AlphaChunk {
+            name,
+            area,
+            bitmaps,
+            channels,
+        } = facts.alpha;
+        let area = selection_chunk(&area, bitmaps, channels);
+        (facts.number, AlphaChunk { name, area })
+    }
+
+    fn alpha_name(&self, input: &[u8], room: usize, k: u32) -> (u32, u64, u64) {
+        // SAFETY: the slice is valid for its length, and nothing is written.
+        let part = unsafe { ffi::psp_alpha_name(input.as_ptr(), input.len(), room, k) };
+        name(part, numbers::alpha_name(input, room, k).bytes, input)
     }
 
     fn dots(&self, resolution: Resolution) -> Option<f64> {

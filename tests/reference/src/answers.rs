@@ -3,9 +3,10 @@
 
 use crate::case::Case;
 use crate::library::{Library, Listed, Record};
-use crate::psp::chunks::{ImageChunk, LayerChunk, Resolution};
+use crate::psp::chunks::{AlphaChunk, ImageChunk, LayerChunk, Resolution, SelectionChunk};
 use crate::psp::listing::ENTRY_NUMBERS;
 use crate::psp::planes::PlaneAnswer;
+use crate::psp::rectangle::Rectangle;
 use crate::psp::views::Lender;
 
 /// What buffers hold before a call.
@@ -47,7 +48,27 @@ pub fn answer(library: &dyn Library, case: &Case) -> Answer {
             let (number, layer) = library.layer_facts(input, *room as usize, *k);
             numbered(number, layer_line(number, &layer))
         }
-        Case::LayerName { room, k, input } => name(library, *room as usize, *k, input),
+        Case::LayerName { room, k, input } => {
+            name('N', library.layer_name(input, *room as usize, *k), input)
+        }
+        _ => answer_of_selections(library, case),
+    }
+}
+
+/// The kinds that read selections and alpha channels.
+fn answer_of_selections(library: &dyn Library, case: &Case) -> Answer {
+    match case {
+        Case::SelectionFacts { room, input } => {
+            let (number, selection) = library.selection_facts(input, *room as usize);
+            numbered(number, area_line('S', number, &selection))
+        }
+        Case::AlphaFacts { room, k, input } => {
+            let (number, alpha) = library.alpha_facts(input, *room as usize, *k);
+            numbered(number, alpha_line(number, &alpha))
+        }
+        Case::AlphaName { room, k, input } => {
+            name('M', library.alpha_name(input, *room as usize, *k), input)
+        }
         _ => answer_without_file(library, case),
     }
 }
@@ -171,13 +192,11 @@ fn palette(library: &dyn Library, room: usize, ramp: usize, input: &[u8]) -> Ans
     numbered(view.number, line)
 }
 
-fn name(library: &dyn Library, room: usize, k: u32, input: &[u8]) -> Answer {
-    let (number, start, length) = library.layer_name(input, room, k);
+/// A part of the input, which is a name: number, start and length.
+fn name(kind: char, (number, start, length): (u32, u64, u64), input: &[u8]) -> Answer {
     let shown = shown(number, input, start, length);
-    numbered(
-        number,
-        format!("N {} {} {}{}", number, start, length, shown),
-    )
+    let line = format!("{} {} {} {}{}", kind, number, start, length, shown);
+    numbered(number, line)
 }
 
 fn shown(number: u32, lent: &[u8], start: u64, length: u64) -> String {
@@ -236,10 +255,24 @@ fn layer_line(number: u32, layer: &LayerChunk) -> String {
         layer.mask_border,
         layer.mask_saved,
     ];
-    for corner in rectangles.iter().flat_map(|rectangle| rectangle.corners()) {
-        line.push_str(&format!(" {}", corner));
-    }
+    line.push_str(&corners(&rectangles));
     let (name, ranges) = (fnv(&layer.name), fnv(&layer.blend_ranges));
     line.push_str(&format!(" {} {}", name, ranges));
     line
+}
+
+fn corners(rectangles: &[Rectangle]) -> String {
+    let corners = rectangles.iter().flat_map(|rectangle| rectangle.corners());
+    corners.map(|corner| format!(" {}", corner)).collect()
+}
+
+fn area_line(kind: char, number: u32, area: &SelectionChunk) -> String {
+    let corners = corners(&[area.border, area.saved]);
+    let counts = format!("{} {}", area.bitmaps, area.channels);
+    format!("{} {} {}{}", kind, number, counts, corners)
+}
+
+fn alpha_line(number: u32, alpha: &AlphaChunk) -> String {
+    let area = area_line('A', number, &alpha.area);
+    format!("{} {}", area, fnv(&alpha.name))
 }

@@ -97,6 +97,20 @@ pub enum Case {
         k: u32,
         input: Vec<u8>,
     },
+    SelectionFacts {
+        room: u32,
+        input: Vec<u8>,
+    },
+    AlphaFacts {
+        room: u32,
+        k: u32,
+        input: Vec<u8>,
+    },
+    AlphaName {
+        room: u32,
+        k: u32,
+        input: Vec<u8>,
+    },
     Dots {
         bits: u64,
         metric: u8,
@@ -117,6 +131,9 @@ impl Case {
             Case::ImageFacts { .. } => b'F',
             Case::LayerFacts { .. } => b'Y',
             Case::LayerName { .. } => b'N',
+            Case::SelectionFacts { .. } => b'S',
+            Case::AlphaFacts { .. } => b'A',
+            Case::AlphaName { .. } => b'M',
             Case::Dots { .. } => b'D',
         }
     }
@@ -126,11 +143,13 @@ impl Case {
         match self {
             Case::Listing { room, input }
             | Case::Count { room, input }
-            | Case::ImageFacts { room, input } => to.u32(*room).string(input),
+            | Case::ImageFacts { room, input }
+            | Case::SelectionFacts { room, input } => to.u32(*room).string(input),
             Case::PaletteView { room, ramp, input } => to.u32(*room).u32(*ramp).string(input),
-            Case::LayerFacts { room, k, input } | Case::LayerName { room, k, input } => {
-                to.u32(*room).u32(*k).string(input)
-            }
+            Case::LayerFacts { room, k, input }
+            | Case::LayerName { room, k, input }
+            | Case::AlphaFacts { room, k, input }
+            | Case::AlphaName { room, k, input } => to.u32(*room).u32(*k).string(input),
             Case::Intersection { one, other } => to.rectangle(one).rectangle(other),
             Case::Dots { bits, metric } => to.u64(*bits).u8(*metric),
             _ => self.pixels(&mut to),
@@ -165,8 +184,8 @@ impl Case {
     pub fn decode(kind: u8, payload: &[u8]) -> Option<Case> {
         let mut from = Taker { rest: payload };
         let case = match kind {
-            b'L' | b'T' | b'V' | b'F' | b'Y' | b'N' => Case::of_file(kind, &mut from)?,
-            _ => Case::of_parts(kind, &mut from)?,
+            b'P' | b'U' | b'K' | b'C' | b'I' | b'D' => Case::of_parts(kind, &mut from)?,
+            _ => Case::of_file(kind, &mut from)?,
         };
         if from.rest.is_empty() {
             Some(case)
@@ -179,7 +198,7 @@ impl Case {
     fn of_file(kind: u8, from: &mut Taker) -> Option<Case> {
         let room = from.u32()?;
         let second = match kind {
-            b'L' | b'T' | b'F' => 0,
+            b'L' | b'T' | b'F' | b'S' => 0,
             _ => from.u32()?,
         };
         let input = from.string()?;
@@ -190,7 +209,11 @@ impl Case {
             b'V' => Case::PaletteView { room, ramp, input },
             b'F' => Case::ImageFacts { room, input },
             b'Y' => Case::LayerFacts { room, k, input },
-            _ => Case::LayerName { room, k, input },
+            b'N' => Case::LayerName { room, k, input },
+            b'S' => Case::SelectionFacts { room, input },
+            b'A' => Case::AlphaFacts { room, k, input },
+            b'M' => Case::AlphaName { room, k, input },
+            _ => return None,
         })
     }
 
@@ -221,11 +244,10 @@ impl Case {
                 one: from.rectangle()?,
                 other: from.rectangle()?,
             },
-            b'D' => Case::Dots {
+            _ => Case::Dots {
                 bits: from.u64()?,
                 metric: from.array::<1>()?[0],
             },
-            _ => return None,
         })
     }
 

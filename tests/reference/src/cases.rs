@@ -2,6 +2,7 @@
 //! gives, and between them random ones, valid and damaged. A seed and a count
 //! give the same cases everywhere.
 
+pub mod alphas;
 pub mod beginnings;
 mod canvases;
 mod channels;
@@ -47,6 +48,7 @@ pub fn systematic() -> Vec<Case> {
     rows::all(&mut cases);
     forms::all(&mut cases);
     named::all(&mut cases);
+    alphas::all(&mut cases);
     beginnings::all(&mut cases);
     channels::all(&mut cases);
     streams::all(&mut cases);
@@ -85,12 +87,12 @@ fn any(random: &mut Random) -> Case {
         0..=29 => listing(random),
         30..=37 => planes::plane(random),
         38..=42 => plane_of_file(random),
-        43..=53 => streams::packets(random),
-        54..=61 => packing::pack(random),
-        62..=71 => canvases::canvas(random),
-        72..=75 => values::intersection(random),
-        76..=82 => palette_view(random),
-        turn @ 83..=96 => facts(random, turn),
+        43..=52 => streams::packets(random),
+        53..=59 => packing::pack(random),
+        60..=68 => canvases::canvas(random),
+        69..=72 => values::intersection(random),
+        73..=78 => palette_view(random),
+        turn @ 79..=97 => facts(random, turn),
         _ => values::dots(random),
     }
 }
@@ -108,22 +110,24 @@ fn palette_view(random: &mut Random) -> Case {
 fn facts(random: &mut Random, turn: u64) -> Case {
     let input = mostly_valid(random);
     let room = room(random, &input);
-    if turn <= 87 {
-        return Case::ImageFacts { room, input };
-    }
-    let k = layer(random);
-    if turn <= 93 {
-        Case::LayerFacts { room, k, input }
-    } else {
-        Case::LayerName { room, k, input }
+    let k = rank(random);
+    match turn {
+        79..=82 => Case::ImageFacts { room, input },
+        83..=88 => Case::LayerFacts { room, k, input },
+        89..=91 => Case::LayerName { room, k, input },
+        92..=93 => Case::SelectionFacts { room, input },
+        94..=95 => Case::AlphaFacts { room, k, input },
+        _ => Case::AlphaName { room, k, input },
     }
 }
 
-/// Every kind that lists an input, with facts and name of layer k.
-pub fn every_listing(room: u32, k: u32, input: &[u8]) -> [Case; 6] {
+/// Every kind that lists an input, with facts and names of layer k and of alpha
+/// channel k.
+pub fn every_listing(room: u32, k: u32, input: &[u8]) -> Vec<Case> {
+    let views = views_of(room, k, input);
     let input = || input.to_vec();
     let ramp = 1_024;
-    [
+    let mut cases = vec![
         Case::Listing {
             room,
             input: input(),
@@ -141,12 +145,35 @@ pub fn every_listing(room: u32, k: u32, input: &[u8]) -> [Case; 6] {
             room,
             input: input(),
         },
+        Case::SelectionFacts {
+            room,
+            input: input(),
+        },
+    ];
+    cases.extend(views);
+    cases
+}
+
+/// Facts and names of layer k and of alpha channel k.
+pub fn views_of(room: u32, k: u32, input: &[u8]) -> [Case; 4] {
+    let input = || input.to_vec();
+    [
         Case::LayerFacts {
             room,
             k,
             input: input(),
         },
         Case::LayerName {
+            room,
+            k,
+            input: input(),
+        },
+        Case::AlphaFacts {
+            room,
+            k,
+            input: input(),
+        },
+        Case::AlphaName {
             room,
             k,
             input: input(),
@@ -234,7 +261,8 @@ fn room(random: &mut Random, input: &[u8]) -> u32 {
     room.clamp(0, i64::from(ROOM_LIMIT)) as u32
 }
 
-fn layer(random: &mut Random) -> u32 {
+/// The number of a layer or of an alpha channel.
+fn rank(random: &mut Random) -> u32 {
     random.pick(&[0, 0, 0, 1, 1, 2, 3, 10, 63, 64, 0x8000_0000, 0xFFFF_FFFF])
 }
 

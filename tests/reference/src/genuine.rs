@@ -3,6 +3,7 @@
 //! document 01 come from one understanding of the format; these programs have
 //! their own.
 
+mod areas;
 mod creator;
 mod exiftool;
 mod gimp;

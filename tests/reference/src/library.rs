@@ -2,7 +2,7 @@
 //! or those of the library that is held to it.
 
 use crate::case::{Placing, Stored};
-use crate::psp::chunks::{ImageChunk, LayerChunk, Resolution};
+use crate::psp::chunks::{AlphaChunk, ImageChunk, LayerChunk, Resolution, SelectionChunk};
 use crate::psp::listing::{self, ENTRY_NUMBERS};
 use crate::psp::planes::{self, PlaneAnswer};
 use crate::psp::rectangle::{self, Rectangle};
@@ -29,6 +29,10 @@ pub trait Library {
     fn layer_facts(&self, input: &[u8], room: usize, k: u32) -> (u32, LayerChunk);
     /// Number, start and length.
     fn layer_name(&self, input: &[u8], room: usize, k: u32) -> (u32, u64, u64);
+    fn selection_facts(&self, input: &[u8], room: usize) -> (u32, SelectionChunk);
+    fn alpha_facts(&self, input: &[u8], room: usize, k: u32) -> (u32, AlphaChunk);
+    /// Number, start and length.
+    fn alpha_name(&self, input: &[u8], room: usize, k: u32) -> (u32, u64, u64);
     fn dots(&self, resolution: Resolution) -> Option<f64>;
 }
 
@@ -111,6 +115,19 @@ impl Library for Reference {
 
     fn layer_name(&self, input: &[u8], room: usize, k: u32) -> (u32, u64, u64) {
         let (number, (start, length)) = numbered(views::layer_name(input, room, u64::from(k)));
+        (number, start, length)
+    }
+
+    fn selection_facts(&self, input: &[u8], room: usize) -> (u32, SelectionChunk) {
+        numbered(views::selection_facts(input, room))
+    }
+
+    fn alpha_facts(&self, input: &[u8], room: usize, k: u32) -> (u32, AlphaChunk) {
+        numbered(views::alpha_facts(input, room, u64::from(k)))
+    }
+
+    fn alpha_name(&self, input: &[u8], room: usize, k: u32) -> (u32, u64, u64) {
+        let (number, (start, length)) = numbered(views::alpha_name(input, room, u64::from(k)));
         (number, start, length)
     }
 

@@ -26,7 +26,7 @@ use library::Reference;
 
 const USAGE: &str = "\
 reference cases SEED COUNT > cases        writes the first COUNT cases of a seed
-reference many > cases                    writes cases of 300,000 blocks
+reference many > cases                    writes cases of very many blocks
 reference answers < cases                 prints the expected answer lines
 reference compare SEED COUNT < answers    compares another program's lines with the expected ones
 reference pick SEED INDEX > case          writes one case, counted from 0

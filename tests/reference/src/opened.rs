@@ -40,7 +40,7 @@ pub fn channel_entries(input: &[u8], room: usize) -> Vec<Entry> {
 }
 
 fn channel(input: &[u8], room: usize, entry: Entry, code: u32) -> Result<Channel, u32> {
-    let layer = views::layer_facts(input, room, u64::from(entry.layer_number))?;
+    let saved = saved(input, room, &entry)?;
     let stored = Stored::of(&entry, code);
     let mut plane = vec![0; entry.plane_length as usize];
     let (start, length) = (stored.start, stored.length);
@@ -51,11 +51,20 @@ fn channel(input: &[u8], room: usize, entry: Entry, code: u32) -> Result<Channel
     Ok(Channel {
         entry,
         stored,
-        saved: match entry.bitmap {
-            2 => layer.mask_saved,
-            _ => layer.image_saved,
-        },
+        saved,
         plane,
+    })
+}
+
+/// The rectangle of a channel, by its bitmap: a layer's, the selection's or an
+/// alpha channel's.
+fn saved(input: &[u8], room: usize, channel: &Entry) -> Result<Rectangle, u32> {
+    let k = u64::from(channel.layer_number);
+    Ok(match channel.bitmap {
+        2 => views::layer_facts(input, room, k)?.mask_saved,
+        3 => views::selection_facts(input, room)?.saved,
+        4 => views::alpha_facts(input, room, k)?.area.saved,
+        _ => views::layer_facts(input, room, k)?.image_saved,
     })
 }
 

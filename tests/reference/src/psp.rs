@@ -1,5 +1,5 @@
-//! Document 01 with requests (i) and (vi) of document 02, written from their
-//! text: the listing of a Paint Shop Pro 3.0 file, the plane reader, the packer,
+//! Document 01 with requests (i), (vi) and (vii) of document 02, written from
+//! their text: the listing of a Paint Shop Pro 3.0 file, the plane reader, the packer,
 //! the canvas and the views.
 //!
 //! Nothing here aims at speed or at a small memory. Every function returns an
@@ -8,12 +8,14 @@
 pub mod canvas;
 pub mod chunks;
 pub mod listing;
+mod parents;
 pub mod planes;
 pub mod program;
 pub mod rectangle;
 pub mod views;
 
-/// The answer numbers, with the names of document 01's table.
+/// The answer numbers, with the names of document 01's table; the last two are
+/// those of the views that request (vii) adds.
 pub mod number {
     pub const ACCEPTED: u32 = 0;
     pub const INPUT_OVER_LIMIT: u32 = 1;
@@ -48,6 +50,8 @@ pub mod number {
     pub const NO_PALETTE_AT_24: u32 = 43;
     pub const RAMP_WRONG: u32 = 44;
     pub const NO_SUCH_LAYER: u32 = 45;
+    pub const NO_SELECTION: u32 = 46;
+    pub const NO_SUCH_ALPHA: u32 = 47;
 }
 
 pub const INPUT_LIMIT: u64 = 67_108_864;

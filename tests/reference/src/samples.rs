@@ -7,10 +7,10 @@ pub use mug::{mug, narrow_mug};
 
 use crate::psp::planes::packed_form;
 use crate::psp::rectangle::Rectangle;
-use crate::write::{Form, Image, InBank, Layer, Picture, Skipped};
+use crate::write::{self, Alpha, Area, Form, Image, InAlphaBank, InBank, Layer, Picture, Skipped};
 
 /// The names that `sample` knows.
-pub const NAMES: [&str; 11] = [
+pub const NAMES: [&str; 13] = [
     "grey521",
     "layers11",
     "palette",
@@ -19,6 +19,8 @@ pub const NAMES: [&str; 11] = [
     "greys",
     "skips",
     "masks",
+    "alphas",
+    "early",
     "mug",
     "mug-padded",
     "mug-unpadded",
@@ -34,6 +36,8 @@ pub fn sample(name: &str) -> Option<Picture> {
         "greys" => Some(greys()),
         "skips" => Some(skips()),
         "masks" => Some(masks()),
+        "alphas" => Some(alphas()),
+        "early" => Some(early()),
         "mug" => Some(mug()),
         "mug-padded" => Some(narrow_mug(Form::Padded)),
         "mug-unpadded" => Some(narrow_mug(Form::Unpadded)),
@@ -208,6 +212,82 @@ pub fn masks() -> Picture {
     Picture::new(image).bank(vec![InBank::Layer(layer)])
 }
 
+/// 24 bits, and behind the bank a selection and two alpha channels: rows with
+/// padding and without, a saved rectangle without width, a name of 256 bytes.
+/// A skipped block stands in each sort of parent.
+pub fn alphas() -> Picture {
+    let image = Image {
+        width: 6,
+        height: 4,
+        ..Image::new(24, false)
+    };
+    let canvas = Rectangle::new(0, 0, 6, 4);
+    let layer = Layer::new(unit_square())
+        .with(0, 1, vec![1, 0, 0, 0])
+        .with(0, 2, vec![2, 0, 0, 0])
+        .with(0, 3, vec![3, 0, 0, 0]);
+    let selection = Area::new(Rectangle::new(1, 1, 4, 3))
+        .within(canvas)
+        .with_skipped(12, 5, vec![1, 2])
+        .with_rows(Form::Unpadded, write::SELECTION, vec![9, 8, 7, 6, 5, 4]);
+    let rows = vec![1, 2, 3, 4, 5, 0, 0, 0, 6, 7, 8, 9, 255, 0, 0, 0];
+    let varnish = Area::new(Rectangle::new(-1, 1, 4, 3))
+        .within(Rectangle::new(-2, 0, 6, 4))
+        .with(write::ALPHA, rows);
+    let narrow = Area::new(Rectangle::new(3, 1, 3, 4))
+        .with(write::ALPHA, Vec::new())
+        .with_skipped(1_000, 0, vec![0x7E; 3]);
+    let mut narrow = Alpha::new("", narrow);
+    narrow.name = [b'a'; 256];
+    let unknown = Skipped {
+        id: 13,
+        initial: 292,
+        data: vec![7],
+    };
+    Picture::new(image)
+        .bank(vec![InBank::Layer(layer)])
+        .selection(selection)
+        .alphas(vec![
+            InAlphaBank::Alpha(Alpha::new("Varnish", varnish)),
+            InAlphaBank::Skipped(unknown),
+            InAlphaBank::Alpha(narrow),
+        ])
+}
+
+/// Grey, run lengths; two alpha channels, then a selection, all before the bank.
+/// One alpha channel has no name, and a saved rectangle without height, away
+/// from its border.
+pub fn early() -> Picture {
+    let image = Image {
+        width: 4,
+        height: 4,
+        compression: 1,
+        ..Image::new(8, true)
+    };
+    let spot = Area::new(Rectangle::new(0, 0, 3, 3))
+        .within(Rectangle::new(0, 0, 4, 4))
+        .with_rows(
+            Form::Unpadded,
+            write::ALPHA,
+            packed_form(&[1, 2, 3, 3, 3, 3, 3, 2, 1]),
+        );
+    let flat = Area::new(Rectangle::new(100, -7, 103, -7))
+        .within(Rectangle::new(1, 1, 1, 1))
+        .with(write::ALPHA, Vec::new());
+    let selected = packed_form(&[255, 255, 0, 0, 255, 255, 0, 0]);
+    let selection = Area::new(Rectangle::new(-3, 2, -1, 4))
+        .within(Rectangle::new(-32_768, -32_768, 32_767, 32_767))
+        .with(write::SELECTION, selected);
+    let layer = Layer::new(unit_square()).with(0, 0, vec![4, 5, 0, 0, 0]);
+    Picture::new(image)
+        .alphas(vec![
+            InAlphaBank::Alpha(Alpha::new("Spot", spot)),
+            InAlphaBank::Alpha(Alpha::new("", flat)),
+        ])
+        .selection(selection)
+        .bank(vec![InBank::Layer(layer)])
+}
+
 /// Skipped blocks wherever they are permitted, a palette at 24 bits among
 /// them.
 pub fn skips() -> Picture {
@@ -245,7 +325,7 @@ pub fn skips() -> Picture {
             InBank::Layer(layer("a")),
             unknown(65_535, 1),
         ])
-        .skipped(6, 36, vec![6; 4])
-        .skipped(7, 2, Vec::new())
+        .skipped(1, 36, vec![6; 4])
+        .skipped(10, 2, Vec::new())
         .skipped(12, 0, vec![0; 1])
 }

@@ -1,6 +1,7 @@
 //! Checks of this program: document 01's worked values and sample, and a
 //! check for each point that its text leaves open or that is easily missed.
 
+mod alphas;
 mod forms;
 mod generator;
 mod known;
@@ -26,6 +27,7 @@ pub fn report() -> bool {
     planes::all(&mut checks);
     forms::all(&mut checks);
     views::all(&mut checks);
+    alphas::all(&mut checks);
     let compared = cases::systematic();
     named::all(&mut checks, &compared);
     generator::all(&mut checks, &compared);

@@ -3,6 +3,10 @@
 //! the three shows it best, so no field is judged here: a description may be
 //! as wrong as a test wants.
 
+mod areas;
+
+pub use areas::{Alpha, AlphaBank, Area, InAlphaBank, ALPHA, SELECTION};
+
 use std::ops::RangeInclusive;
 
 use crate::psp::rectangle::Rectangle;
@@ -254,17 +258,15 @@ pub struct Channel {
     pub bitmap: u16,
     pub channel: u16,
     pub form: Form,
-    /// None writes the plane length that the form and the layer's rectangles
+    /// None writes the plane length that the form and the parent's rectangles
     /// give.
     pub plane: Option<u32>,
     pub content: Vec<u8>,
 }
 
 impl Channel {
-    fn node(&self, image: &Image, layer: &Layer) -> Node {
-        let plane = self
-            .plane
-            .unwrap_or_else(|| layer.plane_length(image, self.bitmap, self.form) as u32);
+    fn node(&self, plane_length: u64) -> Node {
+        let plane = self.plane.unwrap_or(plane_length as u32);
         let mut data = Vec::new();
         data.extend_from_slice(&(self.content.len() as u32).to_le_bytes());
         data.extend_from_slice(&plane.to_le_bytes());
@@ -275,10 +277,37 @@ impl Channel {
     }
 }
 
+/// A block inside a layer, and likewise inside a selection or an alpha channel.
 #[derive(Clone, Debug)]
 pub enum InLayer {
     Channel(Channel),
     Skipped(Skipped),
+}
+
+impl InLayer {
+    /// The block, with the plane length that its parent gives a channel.
+    fn node(&self, plane_length: impl Fn(&Channel) -> u64) -> Node {
+        match self {
+            InLayer::Channel(channel) => channel.node(plane_length(channel)),
+            InLayer::Skipped(skipped) => skipped.node(),
+        }
+    }
+}
+
+/// A name field: the text, then zeros.
+fn named(text: &str) -> [u8; 256] {
+    let mut name = [0; 256];
+    for (to, from) in name.iter_mut().zip(text.bytes()) {
+        *to = from;
+    }
+    name
+}
+
+/// Adds a rectangle to a chunk.
+fn rectangle(chunk: &mut Vec<u8>, rectangle: &Rectangle) {
+    for corner in rectangle.corners().iter() {
+        chunk.extend_from_slice(&corner.to_le_bytes());
+    }
 }
 
 /// The layer chunk's fields as written, the header's initial length, and the
@@ -335,9 +364,7 @@ impl Layer {
     }
 
     pub fn named(mut self, name: &str) -> Layer {
-        for (to, from) in self.name.iter_mut().zip(name.bytes()) {
-            *to = from;
-        }
+        self.name = named(name);
         self
     }
 
@@ -398,11 +425,6 @@ impl Layer {
 
     pub fn chunk(&self) -> Vec<u8> {
         let mut chunk = self.name.to_vec();
-        let rectangle = |chunk: &mut Vec<u8>, corners: &Rectangle| {
-            for corner in corners.corners().iter() {
-                chunk.extend_from_slice(&corner.to_le_bytes());
-            }
-        };
         chunk.push(self.kind);
         rectangle(&mut chunk, &self.image_border);
         rectangle(&mut chunk, &self.image_saved);
@@ -424,15 +446,11 @@ impl Layer {
     }
 
     fn node(&self, image: &Image) -> Node {
+        let plane_length =
+            |channel: &Channel| self.plane_length(image, channel.bitmap, channel.form);
+        let inside = self.inside.iter();
         let mut node = Node::new(4, self.initial, self.chunk());
-        node.children = self
-            .inside
-            .iter()
-            .map(|part| match part {
-                InLayer::Channel(channel) => channel.node(image, self),
-                InLayer::Skipped(skipped) => skipped.node(),
-            })
-            .collect();
+        node.children = inside.map(|part| part.node(plane_length)).collect();
         node
     }
 }
@@ -447,7 +465,36 @@ pub enum InBank {
 pub enum Main {
     Palette(Vec<[u8; 4]>),
     Bank(Vec<InBank>),
+    Selection(Area),
+    AlphaBank(AlphaBank),
     Skipped(Skipped),
+}
+
+/// What holds channels: a layer, or the area of a selection or alpha channel.
+pub enum Holder<'a> {
+    Layer(&'a mut Layer),
+    Area(&'a mut Area),
+}
+
+impl<'a> Holder<'a> {
+    pub fn inside(self) -> &'a mut Vec<InLayer> {
+        match self {
+            Holder::Layer(layer) => &mut layer.inside,
+            Holder::Area(area) => &mut area.inside,
+        }
+    }
+
+    pub fn rectangles(self) -> Vec<&'a mut Rectangle> {
+        match self {
+            Holder::Layer(layer) => vec![
+                &mut layer.image_border,
+                &mut layer.image_saved,
+                &mut layer.mask_border,
+                &mut layer.mask_saved,
+            ],
+            Holder::Area(area) => vec![&mut area.border, &mut area.saved],
+        }
+    }
 }
 
 /// A file: the image block, then the other main blocks in their order.
@@ -483,6 +530,16 @@ impl Picture {
         self
     }
 
+    pub fn selection(mut self, selection: Area) -> Picture {
+        self.main.push(Main::Selection(selection));
+        self
+    }
+
+    pub fn alphas(mut self, inside: Vec<InAlphaBank>) -> Picture {
+        self.main.push(Main::AlphaBank(AlphaBank::new(inside)));
+        self
+    }
+
     pub fn layers(&self) -> Vec<&Layer> {
         let mut layers = Vec::new();
         for main in &self.main {
@@ -497,18 +554,46 @@ impl Picture {
         layers
     }
 
-    pub fn layers_mut(&mut self) -> Vec<&mut Layer> {
-        let mut layers = Vec::new();
+    /// All that holds channels, in file order.
+    pub fn holders_mut(&mut self) -> Vec<Holder<'_>> {
+        let mut holders = Vec::new();
         for main in &mut self.main {
-            if let Main::Bank(inside) = main {
-                for part in inside {
-                    if let InBank::Layer(layer) = part {
-                        layers.push(layer);
+            match main {
+                Main::Bank(inside) => {
+                    for part in inside {
+                        if let InBank::Layer(layer) = part {
+                            holders.push(Holder::Layer(layer));
+                        }
                     }
                 }
+                Main::Selection(selection) => holders.push(Holder::Area(selection)),
+                Main::AlphaBank(bank) => {
+                    let areas = bank.alphas_mut().map(|alpha| &mut alpha.area);
+                    holders.extend(areas.map(Holder::Area));
+                }
+                Main::Palette(_) | Main::Skipped(_) => {}
             }
         }
-        layers
+        holders
+    }
+
+    pub fn layers_mut(&mut self) -> Vec<&mut Layer> {
+        let holders = self.holders_mut().into_iter();
+        let layer = |holder| match holder {
+            Holder::Layer(layer) => Some(layer),
+            Holder::Area(_) => None,
+        };
+        holders.filter_map(layer).collect()
+    }
+
+    /// The areas of the selection and of the alpha channels.
+    pub fn areas_mut(&mut self) -> Vec<&mut Area> {
+        let holders = self.holders_mut().into_iter();
+        let area = |holder| match holder {
+            Holder::Area(area) => Some(area),
+            Holder::Layer(_) => None,
+        };
+        holders.filter_map(area).collect()
     }
 
     pub fn tree(&self) -> Tree {
@@ -531,6 +616,8 @@ impl Picture {
                         .collect();
                     bank
                 }
+                Main::Selection(selection) => selection.node(),
+                Main::AlphaBank(bank) => bank.node(),
                 Main::Skipped(skipped) => skipped.node(),
             });
         }

@@ -7,7 +7,7 @@
 use crate::case::{Case, ROOM_LIMIT};
 use crate::psp::rectangle::Rectangle;
 use crate::samples;
-use crate::write::{Image, InBank, InLayer, Layer, Picture};
+use crate::write::{self, Alpha, Area, Form, Image, InAlphaBank, InBank, InLayer, Layer, Picture};
 
 pub fn all(cases: &mut Vec<Case>) {
     for (room, whole) in files() {
@@ -21,8 +21,8 @@ pub fn all(cases: &mut Vec<Case>) {
 }
 
 /// Files, each with a room.
-pub fn files() -> [(u32, Vec<u8>); 6] {
-    let [image, layer, channel] = wrong_fields();
+pub fn files() -> [(u32, Vec<u8>); 7] {
+    let [image, layer, channel, alpha] = wrong_fields();
     [
         (ROOM_LIMIT, masks().bytes()),
         (3, masks().bytes()),
@@ -30,13 +30,16 @@ pub fn files() -> [(u32, Vec<u8>); 6] {
         (ROOM_LIMIT, image),
         (ROOM_LIMIT, layer),
         (ROOM_LIMIT, channel),
+        (ROOM_LIMIT, alpha),
     ]
 }
 
 /// Two wrong fields in a chunk, and blocks behind it: the grey flag and the
 /// layer count of an image; the saved rectangle and the blend ranges of the
-/// second layer; codes and plane length of a layer's second channel.
-pub fn wrong_fields() -> [Vec<u8>; 3] {
+/// second layer; codes and plane length of a layer's second channel; the saved
+/// rectangle and both counts of the second alpha channel, in a file that has its
+/// selection before the bank and its alpha channels behind it.
+pub fn wrong_fields() -> [Vec<u8>; 4] {
     let mut image = samples::grey521();
     image.image.grey = 2;
     image.image.layer_count = 65;
@@ -55,7 +58,27 @@ pub fn wrong_fields() -> [Vec<u8>; 3] {
             channel.plane = Some(41);
         }
     }
-    [image, layers, channels].map(|picture| picture.bytes())
+    [image, layers, channels, alphas()].map(|picture| picture.bytes())
+}
+
+/// A selection of five rows of eight bytes, a layer without pixels, an alpha
+/// channel of five rows without padding, and another that is wrong.
+fn alphas() -> Picture {
+    let square = || Area::new(Rectangle::new(0, 0, 5, 5));
+    let mut wrong = square();
+    wrong.saved = Rectangle::new(0, 0, 5, 6);
+    wrong.bitmaps = 0;
+    wrong.channels = 0;
+    let good = square().with_rows(Form::Unpadded, write::ALPHA, vec![0; 25]);
+    let alphas = [Alpha::new("good", good), Alpha::new("wrong", wrong)];
+    Picture::new(image(true))
+        .selection(square().with(write::SELECTION, vec![0; 40]))
+        .bank(vec![InBank::Layer(Layer::new(Rectangle::default()).with(
+            0,
+            0,
+            Vec::new(),
+        ))])
+        .alphas(alphas.map(InAlphaBank::Alpha).to_vec())
 }
 
 fn image(grey: bool) -> Image {

@@ -18,6 +18,10 @@ pub fn all(cases: &mut Vec<Case>) {
         of_file(&sample, cases);
     }
     of_file(&samples::mug(), cases);
+    for sample in sweeps::with_areas() {
+        of_file(&sample, cases);
+        layer_by_layer(&sample, cases);
+    }
     for form in Form::BOTH {
         layer_by_layer(&samples::narrow_mug(form), cases);
     }

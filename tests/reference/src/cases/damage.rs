@@ -3,7 +3,7 @@
 
 use super::fields;
 use crate::random::Random;
-use crate::write::{file_header, Form, InLayer, Layer, Node, Picture, Tree};
+use crate::write::{file_header, Form, Holder, InLayer, Node, Picture, Tree};
 
 /// The bytes of a picture after a few damages of any sort.
 pub fn damaged(random: &mut Random, picture: &Picture) -> Vec<u8> {
@@ -29,15 +29,16 @@ pub fn damaged(random: &mut Random, picture: &Picture) -> Vec<u8> {
     bytes
 }
 
-fn any_layer<'a>(random: &mut Random, picture: &'a mut Picture) -> Option<&'a mut Layer> {
-    let layers = picture.layers_mut();
-    let chosen = random.index(layers.len());
-    layers.into_iter().nth(chosen)
+/// A layer, a selection or an alpha channel.
+fn any_holder<'a>(random: &mut Random, picture: &'a mut Picture) -> Option<Holder<'a>> {
+    let holders = picture.holders_mut();
+    let chosen = random.index(holders.len());
+    holders.into_iter().nth(chosen)
 }
 
-/// Gives the planes of a layer lengths without padding, wherever they stand.
+/// Gives the planes of one of them lengths without padding, whatever the depth.
 fn form(random: &mut Random, picture: &mut Picture) {
-    let inside = any_layer(random, picture).map(|layer| &mut layer.inside);
+    let inside = any_holder(random, picture).map(Holder::inside);
     for part in inside.into_iter().flatten() {
         if let InLayer::Channel(channel) = part {
             channel.form = Form::Unpadded;
@@ -45,18 +46,14 @@ fn form(random: &mut Random, picture: &mut Picture) {
     }
 }
 
-/// Moves a corner of a layer's rectangle by a little, plane lengths following.
+/// Moves a corner of one of their rectangles by a little, plane lengths
+/// following.
 fn rectangle(random: &mut Random, picture: &mut Picture) {
-    let layer = match any_layer(random, picture) {
-        Some(layer) => layer,
+    let mut rectangles = match any_holder(random, picture) {
+        Some(holder) => holder.rectangles(),
         None => return,
     };
-    let rectangle = match random.below(4) {
-        0 => &mut layer.image_border,
-        1 => &mut layer.image_saved,
-        2 => &mut layer.mask_border,
-        _ => &mut layer.mask_saved,
-    };
+    let rectangle = rectangles.swap_remove(random.index(rectangles.len()));
     let side = match random.below(4) {
         0 => &mut rectangle.left,
         1 => &mut rectangle.top,

@@ -35,6 +35,9 @@ fn bad_fields(id: u16) -> &'static [BadField] {
             (8, 2, 6),
             (10, 2, 4),
         ],
+        6 => &[(0, 4, 40_000), (24, 4, 40_000), (32, 2, 2)],
+        7 => &[(0, 2, 0), (0, 2, 3)],
+        8 => &[(256, 4, 40_000), (280, 4, 40_000), (290, 2, 2)],
         _ => &[],
     }
 }
@@ -45,7 +48,7 @@ type Fault = Box<dyn Fn(&mut Node)>;
 fn faults(id: u16) -> Vec<Fault> {
     let mut faults: Vec<Fault> = vec![
         Box::new(|node| node.mark[3] = 1),
-        Box::new(|node| node.id = 8),
+        Box::new(|node| node.id = if node.id == 8 { 5 } else { 8 }),
         Box::new(|node| node.id = 12),
         Box::new(|node| node.initial = 7),
         Box::new(|node| node.total = Some(0)),
@@ -63,13 +66,20 @@ fn faults(id: u16) -> Vec<Fault> {
 
 /// Every two faults in each block of a file.
 pub fn all(tree: &Tree, cases: &mut Vec<Case>) {
+    from(tree, 0, cases);
+}
+
+/// Every two faults in each main block from a given one on, and in each block
+/// inside them.
+pub fn from(tree: &Tree, first: usize, cases: &mut Vec<Case>) {
     let headers = tree.written().headers;
-    for (path, header) in tree.paths().iter().zip(headers) {
+    let blocks = tree.paths().into_iter().zip(headers);
+    for (path, header) in blocks.filter(|(path, _)| path[0] >= first) {
         let faults = faults(header.id);
         for (at, first) in faults.iter().enumerate() {
             for second in &faults[at..] {
                 let mut changed = tree.clone();
-                if let Some(node) = changed.node(path) {
+                if let Some(node) = changed.node(&path) {
                     first(node);
                     second(node);
                 }

@@ -2,6 +2,7 @@
 //! above each limit, and the numbers that wrap.
 
 /// A little-endian field and the values to try in it.
+#[derive(Clone, Copy)]
 pub struct Field {
     pub offset: usize,
     pub size: usize,
@@ -249,6 +250,42 @@ pub const CHANNEL: &[Field] = &[
     field(10, 2, &[0, 1, 2, 3, 4, 5, 255, 256, 257, 259, 65_535]),
 ];
 
+/// Counts that have to be 1.
+const ONE: &[u64] = &[0, 1, 2, 3, 256, 257, 65_535];
+
+/// An alpha count is not judged, but held to what is there.
+const ALPHA_BANK: &[Field] = &[field(0, 2, &[0, 1, 2, 3, 4, 5, 256, 259, 32_768, 65_535])];
+
+const SELECTION: &[Field] = &[
+    field(0, 4, COORDINATES),
+    field(4, 4, COORDINATES),
+    field(8, 4, COORDINATES),
+    field(12, 4, COORDINATES),
+    field(16, 4, COORDINATES),
+    field(20, 4, COORDINATES),
+    field(24, 4, COORDINATES),
+    field(28, 4, COORDINATES),
+    field(32, 2, ONE),
+    field(34, 2, ONE),
+];
+
+const ALPHA_NAME: &[Field] = &[
+    field(0, 1, &[0, 1, 255]),
+    field(1, 1, &[0, 1, 255]),
+    field(255, 1, &[0, 1, 255]),
+];
+
+/// A name, then the fields of a selection.
+fn alpha() -> Vec<Field> {
+    let behind = |field: &Field| Field {
+        offset: 256 + field.offset,
+        ..*field
+    };
+    let mut fields = ALPHA_NAME.to_vec();
+    fields.extend(SELECTION.iter().map(behind));
+    fields
+}
+
 /// Ids that are worth trying anywhere.
 pub const IDS: &[u16] = &[
     0, 1, 2, 3, 4, 5, 6, 7, 8, 9, 10, 11, 12, 13, 256, 259, 65_535,
@@ -273,6 +310,7 @@ pub const HEADER: &[Field] = &[
 pub const LENGTHS: &[u64] = &[
     0,
     1,
+    2,
     3,
     4,
     5,
@@ -282,10 +320,15 @@ pub const LENGTHS: &[u64] = &[
     14,
     15,
     16,
+    35,
+    36,
     37,
     38,
     39,
     256,
+    291,
+    292,
+    293,
     374,
     375,
     376,
@@ -303,12 +346,15 @@ pub const LENGTHS: &[u64] = &[
 ];
 
 /// The fields of a block's chunk, by its id.
-pub fn of_chunk(id: u16) -> &'static [Field] {
+pub fn of_chunk(id: u16) -> Vec<Field> {
     match id {
-        0 => IMAGE,
-        2 => PALETTE,
-        4 => LAYER,
-        5 => CHANNEL,
-        _ => &[],
+        0 => IMAGE.to_vec(),
+        2 => PALETTE.to_vec(),
+        4 => LAYER.to_vec(),
+        5 => CHANNEL.to_vec(),
+        6 => SELECTION.to_vec(),
+        7 => ALPHA_BANK.to_vec(),
+        8 => alpha(),
+        _ => Vec::new(),
     }
 }

@@ -11,7 +11,7 @@ const DEPTHS: [(u16, bool); 5] = [(1, false), (4, false), (8, true), (8, false),
 
 /// Sides of the saved rectangles: small ones, where lengths of one form and one
 /// off the other meet and planes have no pixels; and the largest.
-fn sizes() -> Vec<[i32; 2]> {
+pub fn sizes() -> Vec<[i32; 2]> {
     let small = (0..=9).flat_map(|width| (0..=3).map(move |height| [width, height]));
     let large = (4_093..=4_096).flat_map(|width| [1, 4_096].map(|height| [width, height]));
     small.chain(large).collect()

@@ -3,8 +3,8 @@
 //! the file of 521 bytes, palettes around the bank. The checks of this program
 //! hold the reference to these answers.
 
-use super::every_listing;
 use super::sweeps::listing;
+use super::{alphas, every_listing};
 use crate::case::{Case, ROOM_LIMIT};
 use crate::psp::rectangle::Rectangle;
 use crate::samples;
@@ -30,15 +30,17 @@ pub fn files() -> Vec<Known> {
     fields(&mut files);
     palettes(&mut files);
     surplus(&mut files);
+    alphas::known(&mut files);
     files
 }
 
 /// The ids of a line of the grid: those that document 01 names, and two more.
 const IDS: [u16; 14] = [0, 1, 2, 3, 4, 5, 6, 7, 8, 9, 10, 11, 12, 65_535];
 
-/// Where an empty block is put into the file of 521 bytes.
+/// Where an empty block is put into a file.
 struct Spot {
     name: &'static str,
+    file: fn() -> Picture,
     parent: &'static [usize],
     at: usize,
     /// The answer's number for each id.
@@ -47,11 +49,14 @@ struct Spot {
     refused: (u64, usize),
 }
 
-/// An empty block where its id may stand is skipped, or has a length that does
-/// not fit (6), or is a bank without a layer (10).
-const SPOTS: [Spot; 5] = [
+/// The file of 521 bytes, and the one of 953 that adds to it a selection and an
+/// alpha channel. An empty block where its id may stand is skipped, or has a
+/// length that does not fit (6), or is a bank without a layer (10), or is one
+/// too many (9).
+const SPOTS: [Spot; 12] = [
     Spot {
         name: "first",
+        file: samples::grey521,
         parent: &[],
         at: 0,
         numbers: [6, 7, 7, 7, 7, 7, 7, 7, 7, 7, 7, 7, 7, 7],
@@ -59,13 +64,15 @@ const SPOTS: [Spot; 5] = [
     },
     Spot {
         name: "before the bank",
+        file: samples::grey521,
         parent: &[],
         at: 1,
-        numbers: [7, 0, 6, 10, 7, 7, 0, 0, 7, 0, 0, 0, 0, 0],
+        numbers: [7, 0, 6, 10, 7, 7, 6, 6, 7, 0, 0, 0, 0, 0],
         refused: (88, 1),
     },
     Spot {
         name: "in the bank",
+        file: samples::grey521,
         parent: &[1],
         at: 0,
         numbers: [7, 7, 7, 7, 6, 7, 7, 7, 7, 7, 7, 7, 0, 0],
@@ -73,6 +80,7 @@ const SPOTS: [Spot; 5] = [
     },
     Spot {
         name: "in the layer",
+        file: samples::grey521,
         parent: &[1, 0],
         at: 0,
         numbers: [7, 7, 7, 7, 7, 6, 7, 7, 7, 7, 7, 7, 0, 0],
@@ -80,27 +88,85 @@ const SPOTS: [Spot; 5] = [
     },
     Spot {
         name: "after the bank",
+        file: samples::grey521,
         parent: &[],
         at: 2,
-        numbers: [7, 0, 6, 7, 7, 7, 0, 0, 7, 7, 0, 0, 0, 0],
+        numbers: [7, 0, 6, 7, 7, 7, 6, 6, 7, 7, 0, 0, 0, 0],
         refused: (521, 4),
+    },
+    Spot {
+        name: "after selection and alpha bank",
+        file: alphas::small,
+        parent: &[],
+        at: 4,
+        numbers: [7, 0, 6, 7, 7, 7, 7, 7, 7, 7, 0, 0, 0, 0],
+        refused: (953, 9),
+    },
+    Spot {
+        name: "in the selection",
+        file: alphas::small,
+        parent: &[2],
+        at: 0,
+        numbers: [7, 7, 7, 7, 7, 6, 7, 7, 7, 7, 7, 7, 0, 0],
+        refused: (571, 5),
+    },
+    Spot {
+        name: "after the selection's channel",
+        file: alphas::small,
+        parent: &[2],
+        at: 1,
+        numbers: [7, 7, 7, 7, 7, 9, 7, 7, 7, 7, 7, 7, 0, 0],
+        refused: (601, 6),
+    },
+    Spot {
+        name: "in the alpha bank",
+        file: alphas::small,
+        parent: &[3],
+        at: 0,
+        numbers: [7, 7, 7, 7, 7, 7, 7, 7, 6, 7, 7, 7, 0, 0],
+        refused: (617, 7),
+    },
+    Spot {
+        name: "after the alpha channel",
+        file: alphas::small,
+        parent: &[3],
+        at: 1,
+        numbers: [7, 7, 7, 7, 7, 7, 7, 7, 9, 7, 7, 7, 0, 0],
+        refused: (953, 9),
+    },
+    Spot {
+        name: "in the alpha channel",
+        file: alphas::small,
+        parent: &[3, 0],
+        at: 0,
+        numbers: [7, 7, 7, 7, 7, 6, 7, 7, 7, 7, 7, 7, 0, 0],
+        refused: (923, 8),
+    },
+    Spot {
+        name: "after the alpha channel's channel",
+        file: alphas::small,
+        parent: &[3, 0],
+        at: 1,
+        numbers: [7, 7, 7, 7, 7, 9, 7, 7, 7, 7, 7, 7, 0, 0],
+        refused: (953, 9),
     },
 ];
 
 fn grid(files: &mut Vec<Known>) {
     for spot in &SPOTS {
         for (&id, &number) in IDS.iter().zip(&spot.numbers) {
-            let mut tree = samples::grey521().tree();
+            let mut tree = (spot.file)().tree();
             let block = Node::new(id, 0, Vec::new());
             tree.inside(spot.parent).insert(spot.at, block);
+            let file = tree.written();
             let (place, count) = match number {
-                0 => (535, 5),
+                0 => (file.bytes.len() as u64, file.headers.len()),
                 10 => (102, 2),
                 _ => spot.refused,
             };
             files.push(Known {
                 name: spot.name,
-                input: tree.bytes(),
+                input: file.bytes,
                 answer: (number, place, count),
             });
         }
@@ -111,7 +177,7 @@ fn grid(files: &mut Vec<Known>) {
 /// blocks have their headers at 36, 88, 102 and 491, and their chunks at 50,
 /// 116 and 505. The image rectangles are (0,0)-(1,1) and stand at 373 and 389,
 /// those of the mask are empty and stand at 410 and 426.
-type Change = (&'static str, usize, usize, u32, (u32, u64, usize));
+pub type Change = (&'static str, usize, usize, u32, (u32, u64, usize));
 
 const CHANGES: [Change; 18] = [
     ("signature", 0, 1, 112, (3, 0, 0)),
@@ -186,16 +252,20 @@ const NAMED: [Change; 35] = [
     ("plane length 5", 509, 4, 5, (8, 509, 3)),
 ];
 
-fn fields(files: &mut Vec<Known>) {
-    for &(name, place, size, value, answer) in CHANGES.iter().chain(&NAMED) {
-        let mut input = samples::grey521().bytes();
-        input[place..place + size].copy_from_slice(&value.to_le_bytes()[..size]);
-        files.push(Known {
-            name,
-            input,
-            answer,
-        });
+/// A file with one change.
+pub fn changed(mut input: Vec<u8>, &(name, place, size, value, answer): &Change) -> Known {
+    input[place..place + size].copy_from_slice(&value.to_le_bytes()[..size]);
+    Known {
+        name,
+        input,
+        answer,
     }
+}
+
+fn fields(files: &mut Vec<Known>) {
+    let file = samples::grey521().bytes();
+    let changes = CHANGES.iter().chain(&NAMED);
+    files.extend(changes.map(|change| changed(file.clone(), change)));
     let mut input = samples::grey521().bytes();
     input.extend_from_slice(&[0; 5]);
     files.push(Known {

@@ -1,11 +1,13 @@
-//! Inputs of some 300,000 blocks, too long to be among the seeded cases: empty
-//! blocks of an unknown id behind document 01's file, at the main level, in a
-//! bank that claims the largest length, and in a layer that covers them all.
-//! They are walked without a table, and no stack grows with them.
+//! Inputs of very many blocks, too long to be among the seeded cases: some
+//! 300,000 empty ones of an unknown id behind document 01's file, at the main
+//! level, in a bank that claims the largest length, and in a layer that covers
+//! them all; and some 12,000 alpha channels. They are walked without a table,
+//! and no stack grows with them.
 
 use crate::case::Case;
+use crate::psp::rectangle::Rectangle;
 use crate::samples;
-use crate::write::{Node, Tree};
+use crate::write::{self, Alpha, Area, InAlphaBank, Node, Tree};
 
 /// Entries that are enough for each of them.
 const ROOM: u32 = 300_000;
@@ -13,10 +15,13 @@ const ROOM: u32 = 300_000;
 /// Empty blocks that fit 4 MiB behind the file.
 const BLOCKS: usize = 299_555;
 
+/// Alpha channels without pixels that fit 4 MiB behind the file.
+const ALPHAS: usize = 12_631;
+
 pub fn cases() -> Vec<Case> {
     let mut claimed = tree(&[]);
     claimed.blocks[1].total = Some(u32::MAX);
-    let trees = [tree(&[]), claimed, tree(&[1, 0])];
+    let trees = [tree(&[]), claimed, tree(&[1, 0]), alphas()];
     let case = |tree: &Tree| Case::Count {
         room: ROOM,
         input: tree.bytes(),
@@ -30,4 +35,10 @@ fn tree(parent: &[usize]) -> Tree {
     let blocks = vec![Node::new(12, 0, Vec::new()); BLOCKS];
     tree.inside(parent).extend(blocks);
     tree
+}
+
+fn alphas() -> Tree {
+    let area = Area::new(Rectangle::default()).with(write::ALPHA, Vec::new());
+    let alpha = InAlphaBank::Alpha(Alpha::new("", area));
+    samples::grey521().alphas(vec![alpha; ALPHAS]).tree()
 }

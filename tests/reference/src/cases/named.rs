@@ -1,4 +1,4 @@
-//! Wrong fields in each chunk of two small files, one and two at a time, with
+//! Wrong fields in each chunk of three small files, one and two at a time, with
 //! the place that answer 8 gives: that of the field, and of two fields that of
 //! the one which is judged first. The checks of this program hold the reference
 //! to these answers, and see that every field is named, and every two are wrong
@@ -8,7 +8,8 @@ use super::fields;
 use super::sweeps::listing;
 use crate::case::{Case, ROOM_LIMIT};
 use crate::psp::rectangle::Rectangle;
-use crate::write::{Image, InBank, Layer, Picture, Written};
+use crate::samples;
+use crate::write::{self, Alpha, Area, Image, InAlphaBank, InBank, Layer, Picture, Written};
 use Named::{Chunk, Field, Header};
 
 /// What a fault is answered with.
@@ -48,6 +49,8 @@ fn order(id: u16) -> &'static [Named] {
             Field(371),
             Field(373),
         ],
+        6 => &[Field(0), Field(16), Field(32), Field(34)],
+        8 => &[Field(256), Field(272), Field(288), Field(290)],
         // The codes stand behind the plane length, and are judged before it.
         _ => &[Header(6), Field(8), Field(10), Header(9), Field(4)],
     }
@@ -107,9 +110,10 @@ pub fn all(cases: &mut Vec<Case>) {
 
 pub fn files() -> Vec<Spoiled> {
     let mut files = Vec::new();
-    for picture in [colours(), paletted()] {
+    // Of the last, what the others do not have.
+    for (picture, first) in [(colours(), 0), (paletted(), 0), (areas(), 4)] {
         let file = picture.tree().written();
-        for before in 0..file.headers.len() {
+        for before in first..file.headers.len() {
             let block = Block {
                 file: &file,
                 before,
@@ -122,16 +126,20 @@ pub fn files() -> Vec<Spoiled> {
 
 const IMAGE_BORDER: [i32; 4] = [-10, -20, 30, 40];
 const MASK_BORDER: [i32; 4] = [100, 200, 140, 260];
+const AREA_BORDER: [i32; 4] = [-5, 7, 35, 80];
 
 /// Two pixels by two, away from every side of the border.
 fn saved([left, top, ..]: [i32; 4]) -> [i32; 4] {
     [left + 10, top + 20, left + 12, top + 22]
 }
 
+fn of([left, top, right, bottom]: [i32; 4]) -> Rectangle {
+    Rectangle::new(left, top, right, bottom)
+}
+
 /// A layer with both masks. Nothing compares a stored length with a plane
 /// length, so nothing is stored.
 fn layer(image: &Image) -> InBank {
-    let of = |[left, top, right, bottom]: [i32; 4]| Rectangle::new(left, top, right, bottom);
     let mut layer = Layer::new(of(saved(IMAGE_BORDER)));
     layer.image_border = of(IMAGE_BORDER);
     layer.mask_border = of(MASK_BORDER);
@@ -154,6 +162,18 @@ fn paletted() -> Picture {
     let image = Image::new(4, false);
     let layers = vec![layer(&image)];
     Picture::new(image).palette(vec![[0; 4]; 2]).bank(layers)
+}
+
+/// Behind image, bank, layer and channel: a selection, and two alpha channels.
+fn areas() -> Picture {
+    let area = |bitmap| {
+        let area = Area::new(of(saved(AREA_BORDER))).within(of(AREA_BORDER));
+        area.with(bitmap, Vec::new())
+    };
+    let alpha = || InAlphaBank::Alpha(Alpha::new("", area(write::ALPHA)));
+    samples::grey521()
+        .selection(area(write::SELECTION))
+        .alphas(vec![alpha(), alpha()])
 }
 
 /// A block of a good file, by how many stand before it.
@@ -194,6 +214,8 @@ impl Block<'_> {
             0 => 38,
             2 => 4,
             4 => 375,
+            6 => 36,
+            8 => 292,
             _ => 12,
         };
         let end = self.chunk() + size;
@@ -243,6 +265,8 @@ impl Block<'_> {
                 faults
             }
             5 => self.channel_faults(),
+            6 => area_faults(0),
+            8 => area_faults(256),
             _ => Vec::new(),
         }
     }
@@ -255,11 +279,13 @@ impl Block<'_> {
             let chunk = self.file.headers[at].place + 14;
             [chunk + 8, chunk + 10].map(|code| i64::from(self.file.bytes[code]))
         };
-        let [_, channel] = codes(self.before);
+        let [bitmap, channel] = codes(self.before);
+        // A selection's bitmap is 3: elsewhere that is another parent's.
+        let foreign = [(8, 2, if bitmap == 3 { 4 } else { 3 })];
         let other = [(10, 2, i64::from(channel == 0))];
         let mut others: Vec<(Named, &[Change])> = vec![
             (Header(6), &[(0, 4, 1)]),
-            (Header(9), &[(8, 2, 3)]),
+            (Header(9), &foreign),
             (Header(9), &other),
         ];
         let [bitmap, channel] = codes(self.before - 1);
@@ -358,6 +384,17 @@ const CHANNEL: [Change; 7] = [
     (10, 2, 4),
     (10, 2, 65_535),
 ];
+
+/// The faults of a selection's fields at an offset: both counts are 1, and
+/// nothing else.
+fn area_faults(at: usize) -> Vec<Fault> {
+    let counts = [at + 32, at + 34].map(|count| [0, 2, 65_535].map(|value| (count, 2, value)));
+    let mut faults = faults(&counts.concat(), &[]);
+    for axis in 0..2 {
+        faults.extend(sides(at, AREA_BORDER, axis));
+    }
+    faults
+}
 
 /// The faults of a border at an offset and of the saved rectangle behind it, on
 /// the axis of the left and right side (0) or of the upper and lower one (1).

@@ -2,7 +2,10 @@
 
 use crate::psp::rectangle::Rectangle;
 use crate::random::Random;
-use crate::write::{Channel, Form, Image, InBank, InLayer, Layer, Main, Picture, Skipped};
+use crate::write::{
+    self, Alpha, AlphaBank, Area, Channel, Form, Image, InAlphaBank, InBank, InLayer, Layer, Main,
+    Picture, Skipped,
+};
 
 /// Ids of blocks that every level skips.
 const UNKNOWN_IDS: [u16; 6] = [12, 13, 255, 256, 32_768, 65_535];
@@ -23,12 +26,25 @@ pub fn valid(random: &mut Random) -> Picture {
         let at = if random.one_in(4) { 1 } else { 0 };
         main.insert(at, palette);
     }
+    if random.one_in(3) {
+        let selection = area(random, &image, write::SELECTION, skipping);
+        put_anywhere(random, &mut main, Main::Selection(selection));
+    }
+    if random.one_in(3) {
+        let alphas = alpha_bank(random, &image, skipping);
+        put_anywhere(random, &mut main, Main::AlphaBank(alphas));
+    }
     if skipping {
         for _ in 0..random.below(4) {
             skip(random, &mut main);
         }
     }
     Picture { image, main }
+}
+
+fn put_anywhere(random: &mut Random, main: &mut Vec<Main>, block: Main) {
+    let place = random.index(main.len() + 1);
+    main.insert(place, block);
 }
 
 fn image(random: &mut Random) -> Image {
@@ -160,7 +176,7 @@ fn unknown(random: &mut Random) -> Skipped {
 /// A block that main only skips.
 fn known(random: &mut Random) -> Skipped {
     let mut block = unknown(random);
-    block.id = random.pick(&[1, 6, 7, 9, 9, 10, 11, 12, 65_535]);
+    block.id = random.pick(&[1, 9, 9, 10, 11, 12, 65_535]);
     block
 }
 
@@ -180,9 +196,7 @@ fn layer(random: &mut Random, image: &Image, plain: bool, skipping: bool) -> Lay
         random.shuffle(&mut codes);
     }
     for (bitmap, channel) in codes {
-        if skipping && random.one_in(6) {
-            layer.inside.push(InLayer::Skipped(unknown(random)));
-        }
+        perhaps_skipped(random, skipping, &mut layer.inside);
         let form = form(random, image.bits(bitmap));
         let plane = layer.plane_length(image, bitmap, form);
         let content = content(random, plane, image.compression, plain);
@@ -194,10 +208,53 @@ fn layer(random: &mut Random, image: &Image, plain: bool, skipping: bool) -> Lay
             content,
         }));
     }
-    if skipping && random.one_in(6) {
-        layer.inside.push(InLayer::Skipped(unknown(random)));
-    }
+    perhaps_skipped(random, skipping, &mut layer.inside);
     layer
+}
+
+fn perhaps_skipped(random: &mut Random, skipping: bool, inside: &mut Vec<InLayer>) {
+    if skipping && random.one_in(6) {
+        inside.push(InLayer::Skipped(unknown(random)));
+    }
+}
+
+/// A selection, or an alpha channel without its name.
+fn area(random: &mut Random, image: &Image, bitmap: u16, skipping: bool) -> Area {
+    let (border, saved) = rectangles(random, false);
+    let mut area = Area::new(saved).within(border);
+    perhaps_skipped(random, skipping, &mut area.inside);
+    let form = random.pick(&Form::BOTH);
+    let content = content(random, area.plane_length(form), image.compression, false);
+    area = area.with_rows(form, bitmap, content);
+    perhaps_skipped(random, skipping, &mut area.inside);
+    area
+}
+
+fn alpha_bank(random: &mut Random, image: &Image, skipping: bool) -> AlphaBank {
+    let mut inside = Vec::new();
+    for _ in 0..random.pick(&[0, 1, 2, 2, 3]) {
+        if skipping && random.one_in(4) {
+            inside.push(InAlphaBank::Skipped(unknown(random)));
+        }
+        let mut alpha = Alpha::new("", area(random, image, write::ALPHA, skipping));
+        name(random, &mut alpha.name);
+        inside.push(InAlphaBank::Alpha(alpha));
+    }
+    if skipping && random.one_in(4) {
+        inside.push(InAlphaBank::Skipped(unknown(random)));
+    }
+    AlphaBank::new(inside)
+}
+
+/// Of any length; bytes after the first zero are no part of it.
+fn name(random: &mut Random, name: &mut [u8; 256]) {
+    let length = random.pick(&[0, 1, 5, 255, 256]);
+    for byte in name.iter_mut().take(length) {
+        *byte = 1 + random.below(255) as u8;
+    }
+    if random.one_in(8) {
+        name[200] = 7;
+    }
 }
 
 /// Only pixels of a byte each may stand without padding. The channels of a
@@ -219,14 +276,7 @@ fn layer_chunk(random: &mut Random, plain: bool) -> Layer {
     layer.mask_border = mask_border;
     layer.mask_saved = mask_saved;
     layer.initial = random.pick(&[375, 375, 0]);
-    let name_length = random.pick(&[0, 1, 5, 255, 256]);
-    for byte in layer.name.iter_mut().take(name_length) {
-        *byte = 1 + random.below(255) as u8;
-    }
-    if random.one_in(8) {
-        // Bytes after the first zero are no part of the name.
-        layer.name[200] = 7;
-    }
+    name(random, &mut layer.name);
     layer.kind = random.below(2) as u8;
     layer.opacity = random.byte();
     layer.blending = random.byte();

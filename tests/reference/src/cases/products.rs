@@ -1,7 +1,7 @@
 //! Fields that are judged together, in every combination that matters.
 
 use super::fields;
-use super::sweeps::{bases, listing};
+use super::sweeps::{bases, listing, with_areas};
 use crate::case::{Case, ROOM_LIMIT};
 use crate::psp::rectangle::Rectangle;
 use crate::samples;
@@ -145,8 +145,8 @@ fn layer_products(cases: &mut Vec<Case>) {
     }
 }
 
-/// Banks and layers that claim to go on for ever: what follows them lies
-/// inside, and no sum may wrap.
+/// Parents that claim to go on for ever: what follows them lies inside, and no
+/// sum may wrap.
 fn huge_parents(cases: &mut Vec<Case>) {
     const HUGE: [u32; 8] = [
         0x7FFF_FFFF,
@@ -159,28 +159,42 @@ fn huge_parents(cases: &mut Vec<Case>) {
         0xFFFF_FFFF - 116,
     ];
     let after = [None, Some(3), Some(4), Some(5), Some(9), Some(12)];
-    for base in bases() {
-        for bank in HUGE {
-            for layer in [None, Some(!0), Some(bank), Some(bank - 14), Some(bank - 13)] {
+    let mut huge = |base: &Picture, ids: [u16; 2], after: &[Option<u16>]| {
+        for outer in HUGE {
+            for inner in [
+                None,
+                Some(!0),
+                Some(outer),
+                Some(outer - 14),
+                Some(outer - 13),
+            ] {
                 for id in after {
                     let mut tree = base.tree();
-                    set_totals(&mut tree, bank, layer);
+                    set_totals(&mut tree, ids, outer, inner);
                     tree.blocks
                         .extend(id.map(|id| Node::new(id, 0, Vec::new())));
                     cases.push(listing(tree.bytes()));
                 }
             }
         }
+    };
+    for base in bases() {
+        huge(&base, [3, 4], &after);
+    }
+    for base in with_areas() {
+        huge(&base, [6, 5], &[None, Some(5), Some(12)]);
+        huge(&base, [7, 8], &[None, Some(8), Some(12)]);
     }
 }
 
-/// Sets the totals of the bank and, if asked to, of its first layer.
-fn set_totals(tree: &mut Tree, bank: u32, layer: Option<u32>) {
-    for node in tree.blocks.iter_mut().filter(|node| node.id == 3) {
-        node.total = Some(bank);
-        let mut layers = node.children.iter_mut().filter(|node| node.id == 4);
-        if let (Some(first), Some(_)) = (layers.next(), layer) {
-            first.total = layer;
+/// Sets the totals of the main block of an id and, if asked to, of the first
+/// block of an id inside it.
+fn set_totals(tree: &mut Tree, [outer, inner]: [u16; 2], total: u32, inner_total: Option<u32>) {
+    for node in tree.blocks.iter_mut().filter(|node| node.id == outer) {
+        node.total = Some(total);
+        let mut inside = node.children.iter_mut().filter(|node| node.id == inner);
+        if let (Some(first), Some(_)) = (inside.next(), inner_total) {
+            first.total = inner_total;
         }
     }
 }

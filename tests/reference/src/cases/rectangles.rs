@@ -1,4 +1,5 @@
-//! Whole rectangles in each of the four places of each layer.
+//! Whole rectangles in each of the four places of each layer, and in both of
+//! each selection and alpha channel.
 
 use super::sweeps::listing;
 use crate::case::Case;
@@ -53,23 +54,36 @@ const IN_WIDE: [[i32; 4]; 14] = [
 ];
 
 /// Borders with their saved rectangles.
-fn areas() -> Vec<(Rectangle, Rectangle)> {
+fn pairs() -> Vec<(Rectangle, Rectangle)> {
     let of = |[left, top, right, bottom]: [i32; 4]| Rectangle::new(left, top, right, bottom);
     let border = of([-10, -20, 30, 40]);
     let wide = of([-32_768, -32_768, 32_767, 32_767]);
-    let mut areas = Vec::new();
-    areas.extend(SAVED.iter().map(|&saved| (border, of(saved))));
-    areas.extend(IN_WIDE.iter().map(|&saved| (wide, of(saved))));
+    let mut pairs = Vec::new();
+    pairs.extend(SAVED.iter().map(|&saved| (border, of(saved))));
+    pairs.extend(IN_WIDE.iter().map(|&saved| (wide, of(saved))));
     // Borders themselves: out of range, out of order, with nothing saved.
     let nothing = Rectangle::default();
-    areas.extend(SAVED.iter().map(|&border| (of(border), nothing)));
-    areas.push((of([-32_768, 0, 32_768, 1]), nothing));
-    areas
+    pairs.extend(SAVED.iter().map(|&border| (of(border), nothing)));
+    pairs.push((of([-32_768, 0, 32_768, 1]), nothing));
+    pairs
 }
 
-/// Every area as image and as mask of each layer; plane lengths follow them.
+/// Every pair in the selection and in each alpha channel; plane lengths follow.
+pub fn areas(base: &Picture, cases: &mut Vec<Case>) {
+    for (border, saved) in pairs() {
+        for area in 0..base.clone().areas_mut().len() {
+            let mut changed = base.clone();
+            let mut areas = changed.areas_mut();
+            areas[area].border = border;
+            areas[area].saved = saved;
+            cases.push(listing(changed.bytes()));
+        }
+    }
+}
+
+/// Every pair as image and as mask of each layer; plane lengths follow.
 pub fn all(base: &Picture, cases: &mut Vec<Case>) {
-    for (border, saved) in areas() {
+    for (border, saved) in pairs() {
         for layer in 0..base.layers().len() {
             for mask in [false, true] {
                 let mut changed = base.clone();

@@ -1,16 +1,18 @@
 //! Document 01's worked values, and each answer of the plane reader, the
 //! packer and the placing on the smallest of inputs, with resolutions and
-//! shared pixels beside them. Each has the beginning of its line, worked out by
-//! hand, to which the checks of this program hold the reference.
+//! shared pixels beside them, and the views of selections and alpha channels.
+//! Each has the beginning of its line, worked out by hand, to which the checks of
+//! this program hold the reference.
 
 use crate::case::{Case, Placing, Stored};
 use crate::psp::rectangle::Rectangle;
+use crate::samples;
 
 pub fn all(cases: &mut Vec<Case>) {
     cases.extend(rows().into_iter().map(|(case, _)| case));
 }
 
-/// A case, and its line up to the hash.
+/// A case, and its line up to the hash, or with it.
 pub fn rows() -> Vec<(Case, &'static str)> {
     let mut rows = Vec::new();
     streams(&mut rows);
@@ -19,6 +21,8 @@ pub fn rows() -> Vec<(Case, &'static str)> {
     canvases(&mut rows);
     shared(&mut rows);
     dots(&mut rows);
+    selections(&mut rows);
+    alphas(&mut rows);
     rows
 }
 
@@ -159,4 +163,88 @@ fn dots(rows: &mut Rows) {
     push(0x7FF0_0000_0000_0000, 1, "D 0 0");
     push(0x7FF8_0000_0000_0000, 2, "D 0 0");
     push(4643985272004935680, 0, "D 0 0");
+}
+
+/// Bitmaps, channels, border and saved rectangle.
+fn selections(rows: &mut Rows) {
+    let mut push = |room, input, line| rows.push((Case::SelectionFacts { room, input }, line));
+    let [alphas, early] = [samples::alphas(), samples::early()].map(|picture| picture.bytes());
+    let cut = early[..early.len() - 1].to_vec();
+    push(16, alphas.clone(), "S 0 1 1 0 0 6 4 1 1 4 3");
+    push(15, alphas, "S 12 0 0 0 0 0 0 0 0 0 0");
+    push(11, early, "S 0 1 1 -32768 -32768 32767 32767 -3 2 -1 4");
+    push(11, cut, "S 2 0 0 0 0 0 0 0 0 0 0");
+    let none = samples::grey521().bytes();
+    push(4, none, "S 46 0 0 0 0 0 0 0 0 0 0");
+}
+
+/// The same and the hash of all 256 name bytes; of a name its part, the number
+/// again, and its hash. The chunks stand at 709 and 1,072 in one file, at 118 and
+/// 458 in the other.
+fn alphas(rows: &mut Rows) {
+    let mut push = |room, k, input: &[u8], facts, name| {
+        let input = || input.to_vec();
+        let [facts_input, name_input] = [input(), input()];
+        let facts_case = Case::AlphaFacts {
+            room,
+            k,
+            input: facts_input,
+        };
+        let name_case = Case::AlphaName {
+            room,
+            k,
+            input: name_input,
+        };
+        rows.extend([(facts_case, facts), (name_case, name)]);
+    };
+    let [alphas, early] = [samples::alphas(), samples::early()].map(|picture| picture.bytes());
+    push(
+        16,
+        0,
+        &alphas,
+        "A 0 1 1 -2 0 6 4 -1 1 4 3 3863725040",
+        "M 0 709 7 0 3155172432",
+    );
+    push(
+        16,
+        1,
+        &alphas,
+        "A 0 1 1 3 1 3 4 3 1 3 4 1816453829",
+        "M 0 1072 256 0 1816453829",
+    );
+    push(
+        11,
+        0,
+        &early,
+        "A 0 1 1 0 0 4 4 0 0 3 3 526110669",
+        "M 0 118 4 0 2779556765",
+    );
+    push(
+        11,
+        1,
+        &early,
+        "A 0 1 1 1 1 1 1 100 -7 103 -7 3869364677",
+        "M 0 458 0 0 2166136261",
+    );
+    push(
+        16,
+        2,
+        &alphas,
+        "A 47 0 0 0 0 0 0 0 0 0 0 3869364677",
+        "M 47 0 0 47 2166136261",
+    );
+    push(
+        15,
+        2,
+        &alphas,
+        "A 12 0 0 0 0 0 0 0 0 0 0 3869364677",
+        "M 12 0 0 12 2166136261",
+    );
+    push(
+        16,
+        u32::MAX,
+        &alphas[..1_406],
+        "A 2 0 0 0 0 0 0 0 0 0 0 3869364677",
+        "M 2 0 0 2 2166136261",
+    );
 }

@@ -2,7 +2,7 @@
 //! values, every id at every place, rooms from nothing on, and so on, each on
 //! small valid files.
 
-use super::{every_listing, faults, fields, rectangles};
+use super::{alphas, every_listing, faults, fields, rectangles, views_of};
 use crate::case::{Case, ROOM_LIMIT};
 use crate::psp::listing::list;
 use crate::samples;
@@ -21,28 +21,54 @@ pub fn bases() -> Vec<Picture> {
     ]
 }
 
+/// The small samples with a selection and alpha channels.
+pub fn with_areas() -> [Picture; 2] {
+    [samples::alphas(), samples::early()]
+}
+
 pub fn all(cases: &mut Vec<Case>) {
     for base in bases() {
         let tree = base.tree();
-        truncations(&tree, cases);
-        rooms(&tree, cases);
-        views(&tree, cases);
-        chunk_fields(&tree, cases);
-        header_fields(&tree, cases);
-        totals_together(&tree, cases);
-        ids(&tree, cases);
-        blocks(&tree, cases);
-        bytes(&tree, cases);
-        endings(&tree, cases);
+        files(&tree, cases);
+        fields_of(&tree, &tree.paths(), cases);
         channel_codes(&base, cases);
         rectangles::all(&base, cases);
+    }
+    for base in with_areas() {
+        let tree = base.tree();
+        files(&tree, cases);
+        // The other blocks of these files have theirs tried above.
+        let is_new = |path: &Vec<usize>| matches!(tree.blocks[path[0]].id, 6 | 7);
+        let paths: Vec<Vec<usize>> = tree.paths().into_iter().filter(is_new).collect();
+        fields_of(&tree, &paths, cases);
+        area_codes(&base, cases);
+        rectangles::areas(&base, cases);
     }
     for base in [samples::grey521(), samples::palette(), samples::bits4()] {
         faults::all(&base.tree(), cases);
     }
+    faults::from(&alphas::small().tree(), 2, cases);
     // Many layers: every room, and every layer's facts.
     rooms(&samples::mug().tree(), cases);
     views(&samples::mug().tree(), cases);
+}
+
+/// The sweeps over a whole file.
+fn files(tree: &Tree, cases: &mut Vec<Case>) {
+    truncations(tree, cases);
+    rooms(tree, cases);
+    views(tree, cases);
+    totals_together(tree, cases);
+    ids(tree, cases);
+    blocks(tree, cases);
+    bytes(tree, cases);
+    endings(tree, cases);
+}
+
+/// The sweeps over the fields of some of a file's blocks.
+fn fields_of(tree: &Tree, paths: &[Vec<usize>], cases: &mut Vec<Case>) {
+    chunk_fields(tree, paths, cases);
+    header_fields(tree, paths, cases);
 }
 
 /// A listing with ample room.
@@ -96,64 +122,58 @@ fn views(tree: &Tree, cases: &mut Vec<Case>) {
         0x8000_0000,
         0xFFFF_FFFF,
     ] {
-        cases.push(Case::LayerFacts {
-            room,
-            k,
-            input: input.clone(),
-        });
-        cases.push(Case::LayerName {
-            room,
-            k,
-            input: input.clone(),
-        });
+        cases.extend(views_of(room, k, &input));
     }
 }
 
 /// Each field of each chunk at its boundary values. Facts are read too: what
 /// passes the listing has to come out as written.
-fn chunk_fields(tree: &Tree, cases: &mut Vec<Case>) {
-    for path in tree.paths() {
-        let id = tree.clone().node(&path).map_or(0, |node| node.id);
+fn chunk_fields(tree: &Tree, paths: &[Vec<usize>], cases: &mut Vec<Case>) {
+    for path in paths {
+        let id = tree.clone().node(path).map_or(0, |node| node.id);
         for field in fields::of_chunk(id) {
             for &value in field.values {
                 let mut changed = tree.clone();
-                if let Some(node) = changed.node(&path) {
+                if let Some(node) = changed.node(path) {
                     field.set(&mut node.data, value);
                 }
                 let input = changed.bytes();
-                match id {
-                    0 => cases.push(Case::ImageFacts {
-                        room: ROOM_LIMIT,
-                        input: input.clone(),
-                    }),
-                    4 => cases.push(Case::LayerFacts {
-                        room: ROOM_LIMIT,
-                        k: layer_number(tree, &path),
-                        input: input.clone(),
-                    }),
-                    _ => {}
-                }
+                cases.extend(facts(id, rank(tree, path), &input));
                 cases.push(listing(input));
             }
         }
     }
 }
 
-/// The number of the layer at a path.
-fn layer_number(tree: &Tree, path: &[usize]) -> u32 {
+/// The facts that are read from block k of an id.
+fn facts(id: u16, k: u32, input: &[u8]) -> Option<Case> {
+    let (room, input) = (ROOM_LIMIT, input.to_vec());
+    match id {
+        0 => Some(Case::ImageFacts { room, input }),
+        4 => Some(Case::LayerFacts { room, k, input }),
+        6 => Some(Case::SelectionFacts { room, input }),
+        8 => Some(Case::AlphaFacts { room, k, input }),
+        _ => None,
+    }
+}
+
+/// The number of the block at a path among those of its id in its parent.
+fn rank(tree: &Tree, path: &[usize]) -> u32 {
     let mut tree = tree.clone();
     match path.split_last() {
         Some((last, above)) => {
-            let before = tree.inside(above).iter().take(*last);
-            before.filter(|node| node.id == 4).count() as u32
+            let siblings = tree.inside(above);
+            let is_alike = |node: &&Node| node.id == siblings[*last].id;
+            siblings.iter().take(*last).filter(is_alike).count() as u32
         }
         None => 0,
     }
 }
 
-fn header_fields(tree: &Tree, cases: &mut Vec<Case>) {
+fn header_fields(tree: &Tree, paths: &[Vec<usize>], cases: &mut Vec<Case>) {
     let written = tree.written();
-    for header in &written.headers {
+    let blocks = tree.paths().into_iter().zip(&written.headers);
+    for (_, header) in blocks.filter(|(path, _)| paths.contains(path)) {
         for field in fields::HEADER {
             for &value in field.values {
                 let mut input = written.bytes.clone();
@@ -163,10 +183,10 @@ fn header_fields(tree: &Tree, cases: &mut Vec<Case>) {
         }
     }
     // Totals off by a little, which the boundary values may miss.
-    for path in tree.paths() {
+    for path in paths {
         for off in -16i64..=16 {
             let mut changed = tree.clone();
-            if let Some(node) = changed.node(&path) {
+            if let Some(node) = changed.node(path) {
                 let near = i64::from(node.true_total()) + off;
                 node.total = Some(near.max(0) as u32);
             }
@@ -214,7 +234,7 @@ fn ids(tree: &Tree, cases: &mut Vec<Case>) {
     parents.extend(tree.paths());
     for parent in parents {
         let holds_blocks = match tree.clone().node(&parent) {
-            Some(node) => node.id == 3 || node.id == 4,
+            Some(node) => matches!(node.id, 3 | 4 | 6 | 7 | 8),
             None => true,
         };
         if !holds_blocks {
@@ -286,15 +306,20 @@ fn blocks(tree: &Tree, cases: &mut Vec<Case>) {
     }
 }
 
-/// Every byte but those of names and blend ranges, with one bit or all turned.
+/// Every byte but those inside names and blend ranges, with one bit or all
+/// turned.
 fn bytes(tree: &Tree, cases: &mut Vec<Case>) {
     let written = tree.written();
     let is_free = |at: usize| {
         written.headers.iter().any(|header| {
-            let chunk = header.place + 14;
-            header.id == 4
-                && ((chunk + 2..chunk + 256).contains(&at)
-                    || (chunk + 331..chunk + 371).contains(&at))
+            let at = at.saturating_sub(header.place + 14);
+            let is_in_name = (2..256).contains(&at);
+            let is_in_ranges = (331..371).contains(&at);
+            match header.id {
+                4 => is_in_name || is_in_ranges,
+                8 => is_in_name,
+                _ => false,
+            }
         })
     };
     for at in 0..written.bytes.len() {
@@ -327,8 +352,29 @@ fn endings(tree: &Tree, cases: &mut Vec<Case>) {
     }
 }
 
-/// Every bitmap with every channel code in each channel of a picture, the
-/// plane length as it was and as the bitmap asks for.
+/// Every bitmap with every channel code in each channel of a selection or an
+/// alpha channel. Half of the codes come with a plane length of neither form:
+/// "expected" is judged before the plane length.
+fn area_codes(base: &Picture, cases: &mut Vec<Case>) {
+    for area in 0..base.clone().areas_mut().len() {
+        for code in 0..8 * 6 {
+            let mut changed = base.clone();
+            let mut areas = changed.areas_mut();
+            let length = areas[area].plane_length(Form::Padded) as u32;
+            for part in areas[area].inside.iter_mut() {
+                if let InLayer::Channel(channel) = part {
+                    channel.bitmap = code / 6;
+                    channel.channel = code % 6;
+                    channel.plane = Some(length + u32::from(code % 2));
+                }
+            }
+            cases.push(listing(changed.bytes()));
+        }
+    }
+}
+
+/// Every bitmap with every channel code in each channel of a picture's layers,
+/// the plane length as it was and as the bitmap asks for.
 fn channel_codes(base: &Picture, cases: &mut Vec<Case>) {
     for layer in 0..base.layers().len() {
         for at in 0..base.layers()[layer].inside.len() {

@@ -31,6 +31,9 @@ pub fn text(input: &[u8], image: &ImageChunk) -> Result<String, u32> {
         text.push_str(&layer_lines(&layer));
         text.push_str(&pixel_lines(&planes(&file, k), &layer));
     }
+    // The selection and the alpha channels would be channels of GIMP's: it
+    // passes over both.
+    text.push_str("channels 0\nselected 0\n");
     Ok(text)
 }
 

@@ -134,7 +134,7 @@ fn plane(layer: &Layer, inside: &Inside, bitmap: u16, random: &mut Random) -> Ve
 
 /// Stretches of one value and of several, so that run lengths have both kinds
 /// of packets, and more than 127 bytes of each.
-fn pixels(count: usize, colours: i64, random: &mut Random) -> Vec<u8> {
+pub fn pixels(count: usize, colours: i64, random: &mut Random) -> Vec<u8> {
     let mut pixels = Vec::new();
     while pixels.len() < count {
         let steady = random.one_in(2);
@@ -150,7 +150,7 @@ fn pixels(count: usize, colours: i64, random: &mut Random) -> Vec<u8> {
 
 /// The bytes of a row: the leftmost pixel in the highest bits, then padding,
 /// which no reader may take for pixels.
-fn joined(pixels: &[u8], bits: usize, length: usize) -> Vec<u8> {
+pub fn joined(pixels: &[u8], bits: usize, length: usize) -> Vec<u8> {
     let mut row = vec![0; (pixels.len() * bits + 7) / 8];
     for (x, pixel) in pixels.iter().enumerate() {
         let bit = x * bits;

@@ -2,6 +2,7 @@
 //! them soundly. Where docs/FIELD.md names a limit of GIMP, the word limit
 //! stands here and in the files beside this one.
 
+use super::areas;
 use super::creator::{self, Field};
 use super::layers::{layer, names, Inside, Masks, Widths};
 use crate::random::Random;
@@ -107,7 +108,7 @@ const THUMBNAIL: u16 = 9;
 /// Ids of other main blocks that a reader has to pass over, whatever is in
 /// them. Limits: no block of an unknown id inside bank or layer, and not 11, a
 /// tube block, on which GIMP may loop for ever.
-const SKIPPED: [u16; 5] = [6, 7, 12, 1_000, 65_535];
+const SKIPPED: [u16; 3] = [12, 1_000, 65_535];
 
 /// Every subject raw and in run lengths, from one source of numbers.
 pub fn all(random: &mut Random) -> Vec<File> {
@@ -157,6 +158,7 @@ fn picture(subject: &Subject, compression: u16, creator: &[Field], random: &mut 
         let length = random.index(40);
         picture = picture.skipped(id, 0, random.bytes(length));
     }
+    picture = areas::added(picture, random);
     // The thumbnail may not follow the bank; the others have no order.
     random.shuffle(&mut picture.main[1..]);
     picture

@@ -94,6 +94,20 @@ impl Passed {
     fn carried(self, length: u64) -> Passed {
         self.field(length, true)
     }
+
+    /// A border and the saved rectangle behind it. A rectangle is one field:
+    /// whichever coordinate is wrong, its first corner is the place.
+    fn rectangles(self, border: &Rectangle, saved: &Rectangle) -> Passed {
+        let is_inside = saved.is_empty() || saved.lies_inside(border);
+        self.field(RECTANGLE, border.is_permitted())
+            .field(RECTANGLE, saved.is_permitted_as_saved() && is_inside)
+    }
+}
+
+/// Bytes of a name before the first zero, or all 256.
+fn name_length(name: &[u8; 256]) -> usize {
+    let zero = name.iter().position(|&byte| byte == 0);
+    zero.unwrap_or(name.len())
 }
 
 /// The words of document 000, padded with zeros to 32 bytes.
@@ -345,23 +359,17 @@ impl LayerChunk {
         }
     }
 
-    /// Where the first field that is not permitted stands (8). A rectangle is
-    /// one field: whichever coordinate is wrong, its first corner is the place.
+    /// Where the first field that is not permitted stands (8).
     pub fn wrong_field(&self, colour_channels: u16) -> Option<u64> {
-        let saved = |saved: &Rectangle, border: &Rectangle| {
-            saved.is_permitted_as_saved() && (saved.is_empty() || saved.lies_inside(border))
-        };
         // 32 bits: a count of bitmaps may be as wrong as 65,535.
         let colours_and_bitmaps = u32::from(colour_channels) + u32::from(self.bitmaps);
         Passed::default()
             .carried(self.name.len() as u64)
             .field(BYTE, self.kind <= 1)
-            .field(RECTANGLE, self.image_border.is_permitted())
-            .field(RECTANGLE, saved(&self.image_saved, &self.image_border))
+            .rectangles(&self.image_border, &self.image_saved)
             // Opacity, blending mode, two flags, link group.
             .carried(5 * BYTE)
-            .field(RECTANGLE, self.mask_border.is_permitted())
-            .field(RECTANGLE, saved(&self.mask_saved, &self.mask_border))
+            .rectangles(&self.mask_border, &self.mask_saved)
             // Three flags.
             .carried(3 * BYTE)
             .field(WORD, self.blend_count <= 5)
@@ -371,18 +379,103 @@ impl LayerChunk {
             .wrong
     }
 
-    /// Bytes of the name before the first zero, or all 256.
     pub fn name_length(&self) -> usize {
-        self.name
-            .iter()
-            .position(|&byte| byte == 0)
-            .unwrap_or(self.name.len())
+        name_length(&self.name)
     }
 }
 
 impl Default for LayerChunk {
     fn default() -> LayerChunk {
         LayerChunk::decode(&[])
+    }
+}
+
+#[derive(Clone, Copy, Debug, Default)]
+pub struct SelectionChunk {
+    pub border: Rectangle,
+    pub saved: Rectangle,
+    pub bitmaps: u16,
+    pub channels: u16,
+}
+
+impl SelectionChunk {
+    pub const SIZE: u64 = 36;
+
+    pub fn decode(unit: &[u8]) -> SelectionChunk {
+        SelectionChunk::of(&mut Fields::of(unit))
+    }
+
+    fn of(fields: &mut Fields) -> SelectionChunk {
+        SelectionChunk {
+            border: fields.rectangle(),
+            saved: fields.rectangle(),
+            bitmaps: fields.word(),
+            channels: fields.word(),
+        }
+    }
+
+    /// Where the first field that is not permitted stands (8).
+    pub fn wrong_field(&self) -> Option<u64> {
+        self.judged(Passed::default())
+    }
+
+    /// One bitmap, and one channel.
+    fn judged(&self, passed: Passed) -> Option<u64> {
+        passed
+            .rectangles(&self.border, &self.saved)
+            .field(WORD, self.bitmaps == 1)
+            .field(WORD, self.channels == 1)
+            .wrong
+    }
+}
+
+/// The number of alpha channels, which may be any.
+pub struct AlphaBankChunk {
+    pub count: u16,
+}
+
+impl AlphaBankChunk {
+    pub const SIZE: u64 = 2;
+
+    pub fn decode(unit: &[u8]) -> AlphaBankChunk {
+        AlphaBankChunk {
+            count: Fields::of(unit).word(),
+        }
+    }
+}
+
+/// A name, and behind it the fields of a selection.
+#[derive(Clone, Copy, Debug)]
+pub struct AlphaChunk {
+    pub name: [u8; 256],
+    pub area: SelectionChunk,
+}
+
+impl AlphaChunk {
+    pub const SIZE: u64 = 292;
+
+    pub fn decode(unit: &[u8]) -> AlphaChunk {
+        let mut fields = Fields::of(unit);
+        AlphaChunk {
+            name: fields.bytes(),
+            area: SelectionChunk::of(&mut fields),
+        }
+    }
+
+    /// Where the first field that is not permitted stands (8).
+    pub fn wrong_field(&self) -> Option<u64> {
+        let named = Passed::default().carried(self.name.len() as u64);
+        self.area.judged(named)
+    }
+
+    pub fn name_length(&self) -> usize {
+        name_length(&self.name)
+    }
+}
+
+impl Default for AlphaChunk {
+    fn default() -> AlphaChunk {
+        AlphaChunk::decode(&[])
     }
 }
 

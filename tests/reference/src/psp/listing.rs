@@ -1,11 +1,11 @@
-//! The listing: one walk over the blocks of an input, with the open bank and
-//! the open layer kept by hand, so that the stack does not grow and every
-//! byte is passed once.
+//! The listing: one walk over the blocks of an input, with the open parents
+//! kept by hand, so that the stack does not grow and every byte is passed once.
 
 use super::chunks::{
-    BlockHeader, ChannelChunk, FileHeader, ImageChunk, LayerChunk, PaletteChunk, MARK, SIGNATURE,
+    AlphaBankChunk, AlphaChunk, BlockHeader, ChannelChunk, FileHeader, ImageChunk, LayerChunk,
+    PaletteChunk, SelectionChunk, MARK, SIGNATURE,
 };
-use super::rectangle::rows;
+use super::parents::Parent;
 use super::{number, part, INPUT_LIMIT};
 
 pub const IMAGE: u16 = 0;
@@ -13,6 +13,8 @@ pub const PALETTE: u16 = 2;
 pub const BANK: u16 = 3;
 pub const LAYER: u16 = 4;
 pub const CHANNEL: u16 = 5;
+pub const SELECTION: u16 = 6;
+pub const ALPHA_BANK: u16 = 7;
 pub const ALPHA_CHANNEL: u16 = 8;
 pub const THUMBNAIL: u16 = 9;
 /// From here on ids have no meaning in format 3.0.
@@ -132,22 +134,10 @@ enum Treatment {
     Bank,
     Layer,
     Channel,
+    Selection,
+    AlphaBank,
+    Alpha,
     Skip,
-}
-
-struct OpenBank {
-    end: u64,
-    layers: u16,
-}
-
-struct OpenLayer {
-    end: u64,
-    number: u16,
-    chunk: LayerChunk,
-    channels: u16,
-    colours: u16,
-    /// Bitmaps 0 to 2 by channels 0 to 3.
-    seen: [[bool; 4]; 3],
 }
 
 struct Walk<'a> {
@@ -157,11 +147,10 @@ struct Walk<'a> {
     /// Start of the next unit, never past the input's end.
     at: u64,
     image: Option<ImageChunk>,
-    palette_passed: bool,
-    palette_listed: bool,
-    bank_passed: bool,
-    bank: Option<OpenBank>,
-    layer: Option<OpenLayer>,
+    /// The known ids that have stood at the main level.
+    passed: [bool; FIRST_UNKNOWN as usize],
+    /// Each inside the one before it.
+    open: Vec<Parent>,
 }
 
 impl<'a> Walk<'a> {
@@ -172,11 +161,8 @@ impl<'a> Walk<'a> {
             entries: Vec::new(),
             at: 0,
             image: None,
-            palette_passed: false,
-            palette_listed: false,
-            bank_passed: false,
-            bank: None,
-            layer: None,
+            passed: [false; FIRST_UNKNOWN as usize],
+            open: Vec::new(),
         }
     }
 
@@ -220,46 +206,36 @@ impl<'a> Walk<'a> {
     }
 
     fn level(&self) -> u32 {
-        match (&self.bank, &self.layer) {
-            (_, Some(_)) => 2,
-            (Some(_), None) => 1,
-            (None, None) => 0,
-        }
+        self.open.len() as u32
     }
 
     fn parent_end(&self) -> Option<u64> {
-        match (&self.bank, &self.layer) {
-            (_, Some(layer)) => Some(layer.end),
-            (Some(bank), None) => Some(bank.end),
-            (None, None) => None,
+        self.open.last().map(|parent| parent.end)
+    }
+
+    /// The walk stands on the end of the innermost parent.
+    fn close_parent(&mut self) -> Result<(), Refusal> {
+        let colours = self.image.unwrap_or_default().colour_channels();
+        match self.open.pop() {
+            Some(parent) if !parent.is_complete(colours) => refuse(number::PARTS_MISSING, self.at),
+            _ => Ok(()),
         }
     }
 
-    /// The walk stands on the end of the open layer or bank.
-    fn close_parent(&mut self) -> Result<(), Refusal> {
-        let image = self.image.unwrap_or_default();
-        let complete = if let Some(layer) = self.layer.take() {
-            layer.channels == layer.chunk.channels && layer.colours == image.colour_channels()
-        } else if let Some(bank) = self.bank.take() {
-            bank.layers == image.layer_count
-        } else {
-            true
-        };
-        if complete {
-            Ok(())
-        } else {
-            refuse(number::PARTS_MISSING, self.at)
-        }
+    /// Whether a block of that known id has stood at the main level.
+    fn has_passed(&self, id: u16) -> bool {
+        self.passed[usize::from(id)]
     }
 
     /// The input stops at a main boundary. A bank that was passed is complete
-    /// there: it was judged at its own end.
+    /// there: it was judged at its own end. Below depth 24 a palette that was
+    /// passed is listed.
     fn end_of_input(&self) -> Result<(), Refusal> {
         let palette_due = match &self.image {
-            Some(image) => image.is_paletted() && !self.palette_listed,
+            Some(image) => image.is_paletted() && !self.has_passed(PALETTE),
             None => true,
         };
-        if self.bank_passed && !palette_due {
+        if self.has_passed(BANK) && !palette_due {
             Ok(())
         } else {
             refuse(number::ENDS_TOO_SOON, self.at)
@@ -277,30 +253,39 @@ impl<'a> Walk<'a> {
         if id >= FIRST_UNKNOWN {
             return Some(Treatment::Skip);
         }
-        match (self.level(), id) {
-            (2, CHANNEL) => Some(Treatment::Channel),
-            (2, _) => None,
-            (1, LAYER) => Some(Treatment::Layer),
-            (1, _) => None,
-            (_, IMAGE) | (_, LAYER) | (_, CHANNEL) | (_, ALPHA_CHANNEL) => None,
-            (_, PALETTE) if self.palette_passed => None,
-            (_, PALETTE) if image.depth == 24 => Some(Treatment::Skip),
-            (_, PALETTE) => Some(Treatment::Palette),
-            (_, BANK) if self.bank_passed => None,
-            (_, BANK) => Some(Treatment::Bank),
-            (_, THUMBNAIL) if self.bank_passed => None,
-            // Creator, selection, alpha bank, thumbnail, extended, tube.
+        match self.open.last() {
+            None => self.main_treatment(id, image),
+            Some(parent) if parent.part() != id => None,
+            Some(_) => Some(match id {
+                LAYER => Treatment::Layer,
+                ALPHA_CHANNEL => Treatment::Alpha,
+                _ => Treatment::Channel,
+            }),
+        }
+    }
+
+    /// A known id at the main level, behind the image.
+    fn main_treatment(&self, id: u16, image: &ImageChunk) -> Option<Treatment> {
+        match id {
+            IMAGE | LAYER | CHANNEL | ALPHA_CHANNEL => None,
+            PALETTE | BANK | SELECTION | ALPHA_BANK if self.has_passed(id) => None,
+            PALETTE if image.depth == 24 => Some(Treatment::Skip),
+            PALETTE => Some(Treatment::Palette),
+            BANK => Some(Treatment::Bank),
+            SELECTION => Some(Treatment::Selection),
+            ALPHA_BANK => Some(Treatment::AlphaBank),
+            THUMBNAIL if self.has_passed(BANK) => None,
+            // Creator, thumbnail, extended, tube.
             _ => Some(Treatment::Skip),
         }
     }
 
-    /// One layer or channel more than announced.
+    /// One layer, alpha channel or channel more than announced.
     fn is_surplus(&self, treatment: Treatment) -> bool {
-        match (treatment, &self.bank, &self.layer) {
-            (Treatment::Layer, Some(bank), _) => {
-                bank.layers >= self.image.unwrap_or_default().layer_count
+        match treatment {
+            Treatment::Layer | Treatment::Alpha | Treatment::Channel => {
+                self.open.last().map_or(false, Parent::is_full)
             }
-            (Treatment::Channel, _, Some(layer)) => layer.channels >= layer.chunk.channels,
             _ => false,
         }
     }
@@ -326,6 +311,9 @@ impl<'a> Walk<'a> {
             Treatment::Bank => initial == 0,
             Treatment::Layer => (initial == 375 || initial == 0) && total >= 375,
             Treatment::Channel => initial == 12 && total >= 12,
+            Treatment::Selection => initial == 36 && total >= 36,
+            Treatment::AlphaBank => initial == 2 && total >= 2,
+            Treatment::Alpha => initial == 292 && total >= 292,
             Treatment::Skip => true,
         };
         let end = place + BlockHeader::SIZE + u64::from(total);
@@ -342,6 +330,9 @@ impl<'a> Walk<'a> {
             Treatment::Bank => self.open_bank(place, end),
             Treatment::Layer => self.open_layer(place, end),
             Treatment::Channel => self.channel(place, total),
+            Treatment::Selection => self.open_selection(place, end),
+            Treatment::AlphaBank => self.open_alpha_bank(place, end),
+            Treatment::Alpha => self.open_alpha(place, end),
             Treatment::Skip => self.skip(place, header),
         }
     }
@@ -351,6 +342,11 @@ impl<'a> Walk<'a> {
     fn write(&mut self, entry: Entry, place: u64, owned: u64) -> Result<(), Refusal> {
         if self.entries.len() >= self.room {
             return refuse(number::TABLE_FULL, place);
+        }
+        if self.open.is_empty() {
+            if let Some(passed) = self.passed.get_mut(entry.id as usize) {
+                *passed = true;
+            }
         }
         // All of it lies inside the input, so the numbers fit in 32 bits.
         self.entries.push(Entry {
@@ -395,22 +391,38 @@ impl<'a> Walk<'a> {
             stored_length: chunk.entries_length() as u32,
             ..Entry::default()
         };
-        self.write(entry, place, BlockHeader::SIZE + u64::from(total))?;
-        self.palette_passed = true;
-        self.palette_listed = true;
+        self.write(entry, place, BlockHeader::SIZE + u64::from(total))
+    }
+
+    /// Writes the entry of a parent, whose own bytes are its header and its
+    /// chunk; then come the blocks inside it. Its layer number is its rank among
+    /// the layers of the bank or the alpha channels of the alpha bank.
+    fn enter(
+        &mut self,
+        id: u16,
+        place: u64,
+        chunk: u64,
+        mut parent: Parent,
+    ) -> Result<(), Refusal> {
+        let rank = self.open.last().map_or(0, |outer| outer.passed);
+        let entry = Entry {
+            id: u32::from(id),
+            layer_number: u32::from(rank),
+            ..Entry::default()
+        };
+        self.write(entry, place, BlockHeader::SIZE + chunk)?;
+        if let Some(outer) = self.open.last_mut() {
+            outer.passed += 1;
+        }
+        parent.rank = rank;
+        self.open.push(parent);
         Ok(())
     }
 
     /// The bank's only unit is its header.
     fn open_bank(&mut self, place: u64, end: u64) -> Result<(), Refusal> {
-        let entry = Entry {
-            id: u32::from(BANK),
-            ..Entry::default()
-        };
-        self.write(entry, place, BlockHeader::SIZE)?;
-        self.bank_passed = true;
-        self.bank = Some(OpenBank { end, layers: 0 });
-        Ok(())
+        let bank = Parent::bank(end, &self.image.unwrap_or_default());
+        self.enter(BANK, place, 0, bank)
     }
 
     fn open_layer(&mut self, place: u64, end: u64) -> Result<(), Refusal> {
@@ -418,25 +430,31 @@ impl<'a> Walk<'a> {
         let chunk = LayerChunk::decode(self.unit(chunk_start, LayerChunk::SIZE)?);
         let colours = self.image.unwrap_or_default().colour_channels();
         permit(chunk_start, chunk.wrong_field(colours))?;
-        let number = self.bank.as_ref().map_or(0, |bank| bank.layers);
-        let entry = Entry {
-            id: u32::from(LAYER),
-            layer_number: u32::from(number),
-            ..Entry::default()
-        };
-        self.write(entry, place, BlockHeader::SIZE + LayerChunk::SIZE)?;
-        if let Some(bank) = &mut self.bank {
-            bank.layers += 1;
-        }
-        self.layer = Some(OpenLayer {
-            end,
-            number,
-            chunk,
-            channels: 0,
-            colours: 0,
-            seen: [[false; 4]; 3],
-        });
-        Ok(())
+        self.enter(LAYER, place, LayerChunk::SIZE, Parent::layer(end, chunk))
+    }
+
+    fn open_selection(&mut self, place: u64, end: u64) -> Result<(), Refusal> {
+        let chunk_start = place + BlockHeader::SIZE;
+        let chunk = SelectionChunk::decode(self.unit(chunk_start, SelectionChunk::SIZE)?);
+        permit(chunk_start, chunk.wrong_field())?;
+        let selection = Parent::selection(end, chunk);
+        self.enter(SELECTION, place, SelectionChunk::SIZE, selection)
+    }
+
+    /// Its count is not judged.
+    fn open_alpha_bank(&mut self, place: u64, end: u64) -> Result<(), Refusal> {
+        let chunk_start = place + BlockHeader::SIZE;
+        let chunk = AlphaBankChunk::decode(self.unit(chunk_start, AlphaBankChunk::SIZE)?);
+        let bank = Parent::alpha_bank(end, chunk);
+        self.enter(ALPHA_BANK, place, AlphaBankChunk::SIZE, bank)
+    }
+
+    fn open_alpha(&mut self, place: u64, end: u64) -> Result<(), Refusal> {
+        let chunk_start = place + BlockHeader::SIZE;
+        let chunk = AlphaChunk::decode(self.unit(chunk_start, AlphaChunk::SIZE)?);
+        permit(chunk_start, chunk.wrong_field())?;
+        let alpha = Parent::alpha(end, chunk);
+        self.enter(ALPHA_CHANNEL, place, AlphaChunk::SIZE, alpha)
     }
 
     fn channel(&mut self, place: u64, total: u32) -> Result<(), Refusal> {
@@ -448,8 +466,10 @@ impl<'a> Walk<'a> {
         }
         permit(chunk_start, chunk.wrong_code())?;
         let image = self.image.unwrap_or_default();
-        let plane = match &self.layer {
-            Some(layer) if is_expected(&chunk, &image, layer) => plane(&chunk, &image, layer),
+        let (rank, plane) = match self.open.last() {
+            Some(parent) if parent.expects(&chunk, &image) => {
+                (parent.rank, parent.plane(&chunk, &image))
+            }
             _ => return refuse(number::NOT_EXPECTED, place),
         };
         let plane_length = chunk_start + ChannelChunk::PLANE_LENGTH_PLACE;
@@ -461,7 +481,7 @@ impl<'a> Walk<'a> {
         self.unit(content_start, stored)?;
         let entry = Entry {
             id: u32::from(CHANNEL),
-            layer_number: u32::from(plane.layer),
+            layer_number: u32::from(rank),
             bitmap: u32::from(chunk.bitmap),
             channel: u32::from(chunk.channel),
             content_start: content_start as u32,
@@ -474,18 +494,10 @@ impl<'a> Walk<'a> {
         };
         let owned = BlockHeader::SIZE + ChannelChunk::SIZE + stored;
         self.write(entry, place, owned)?;
-        self.pass_channel(&chunk);
-        Ok(())
-    }
-
-    fn pass_channel(&mut self, chunk: &ChannelChunk) {
-        if let Some(layer) = &mut self.layer {
-            layer.channels += 1;
-            layer.colours += u16::from(chunk.bitmap == 0);
-            if let Some(seen) = seen_mark(chunk, &mut layer.seen) {
-                *seen = true;
-            }
+        if let Some(parent) = self.open.last_mut() {
+            parent.pass_channel(&chunk);
         }
+        Ok(())
     }
 
     fn skip(&mut self, place: u64, header: BlockHeader) -> Result<(), Refusal> {
@@ -499,64 +511,6 @@ impl<'a> Walk<'a> {
             stored_length: header.total,
             ..Entry::default()
         };
-        self.write(entry, place, BlockHeader::SIZE + total)?;
-        // Skipped at depth 24 only, and even there at most once.
-        if header.id == PALETTE {
-            self.palette_passed = true;
-        }
-        Ok(())
-    }
-}
-
-/// Whether a layer may have this channel and has not had it yet. The layer's
-/// bitmap count takes no part.
-fn is_expected(chunk: &ChannelChunk, image: &ImageChunk, layer: &OpenLayer) -> bool {
-    let right_kind = match (chunk.bitmap, chunk.channel) {
-        (0, 1) | (0, 2) | (0, 3) => image.depth == 24,
-        (0, 0) => image.depth != 24,
-        (1, 0) | (2, 0) => true,
-        _ => false,
-    };
-    let mut seen = layer.seen;
-    right_kind && seen_mark(chunk, &mut seen).map_or(false, |seen| !*seen)
-}
-
-fn seen_mark<'a>(chunk: &ChannelChunk, seen: &'a mut [[bool; 4]; 3]) -> Option<&'a mut bool> {
-    seen.get_mut(usize::from(chunk.bitmap))?
-        .get_mut(usize::from(chunk.channel))
-}
-
-/// What a layer says of a channel's plane.
-struct Plane {
-    layer: u16,
-    width: u64,
-    height: u64,
-    bits: u64,
-}
-
-impl Plane {
-    /// The row of a plane of that length: the first of its forms that gives it.
-    /// Where they give the same, as they do without any height, it is padded.
-    fn row(&self, length: u64) -> Option<u64> {
-        rows(self.width, self.bits).find(|row| row * self.height == length)
-    }
-}
-
-/// The plane of an expected channel. The layer's chunk has been judged: sides
-/// are 0 to 4,096.
-fn plane(chunk: &ChannelChunk, image: &ImageChunk, layer: &OpenLayer) -> Plane {
-    let saved = match chunk.bitmap {
-        2 => layer.chunk.mask_saved,
-        _ => layer.chunk.image_saved,
-    };
-    let bits = match chunk.bitmap {
-        0 => image.colour_bits(),
-        _ => 8,
-    };
-    Plane {
-        layer: layer.number,
-        width: saved.width().unsigned_abs(),
-        height: saved.height().unsigned_abs(),
-        bits,
+        self.write(entry, place, BlockHeader::SIZE + total)
     }
 }

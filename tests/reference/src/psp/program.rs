@@ -1,6 +1,8 @@
 //! The text that document 01's listing program prints.
 
-use super::listing::{list, Entry, BANK, CHANNEL, IMAGE, LAYER, PALETTE};
+use super::listing::{
+    list, Entry, ALPHA_BANK, ALPHA_CHANNEL, BANK, CHANNEL, IMAGE, LAYER, PALETTE, SELECTION,
+};
 use super::number;
 
 /// Standard input of the program; more gives answer 1.
@@ -36,6 +38,9 @@ fn entry_line(index: usize, entry: &Entry) -> String {
         BANK => ("bank", vec![]),
         LAYER => ("layer", vec![entry.layer_number]),
         CHANNEL => ("channel", numbers[5..].to_vec()),
+        SELECTION => ("selection", vec![]),
+        ALPHA_BANK => ("alphabank", vec![]),
+        ALPHA_CHANNEL => ("alpha", vec![entry.layer_number]),
         _ => ("skip", vec![]),
     };
     let mut line = format!(

@@ -1,9 +1,10 @@
-//! What is read from an accepted input: the palette view, the image facts,
-//! the facts and the name of layer k. Each lists the input first, with a room
-//! for that many entries, and passes the listing's own number on.
+//! What is read from an accepted input: the palette view, the image facts, the
+//! facts and the name of layer k and of alpha channel k, the facts of the
+//! selection. Each lists the input first, with a room for that many entries,
+//! and passes the listing's own number on.
 
-use super::chunks::{BlockHeader, FileHeader, ImageChunk, LayerChunk};
-use super::listing::{list, Entry, LAYER, PALETTE};
+use super::chunks::{AlphaChunk, BlockHeader, FileHeader, ImageChunk, LayerChunk, SelectionChunk};
+use super::listing::{list, Entry, ALPHA_CHANNEL, LAYER, PALETTE, SELECTION};
 use super::{number, part, RAMP_LENGTH};
 
 /// Which lent slice a palette view shows a part of.
@@ -74,24 +75,69 @@ pub fn image_facts(input: &[u8], room: usize) -> Result<ImageChunk, u32> {
     accepted(input, room).map(|(image, _)| image)
 }
 
-/// The chunk of layer k and its start.
-fn layer_chunk(input: &[u8], room: usize, k: u64) -> Result<(LayerChunk, u64), u32> {
+/// A kind of block whose chunk is shown, and the number for there being none.
+struct Shown {
+    id: u16,
+    size: u64,
+    missing: u32,
+}
+
+const SHOWN_LAYER: Shown = Shown {
+    id: LAYER,
+    size: LayerChunk::SIZE,
+    missing: number::NO_SUCH_LAYER,
+};
+
+const SHOWN_SELECTION: Shown = Shown {
+    id: SELECTION,
+    size: SelectionChunk::SIZE,
+    missing: number::NO_SELECTION,
+};
+
+const SHOWN_ALPHA: Shown = Shown {
+    id: ALPHA_CHANNEL,
+    size: AlphaChunk::SIZE,
+    missing: number::NO_SUCH_ALPHA,
+};
+
+/// The chunk of block k of a kind, and its start.
+fn chunk<'a>(input: &'a [u8], room: usize, kind: &Shown, k: u64) -> Result<(&'a [u8], u64), u32> {
     let (_, entries) = accepted(input, room)?;
     let is_k = |entry: &&Entry| {
-        entry.id == u32::from(LAYER) && entry.skipped == 0 && u64::from(entry.layer_number) == k
+        entry.id == u32::from(kind.id) && entry.skipped == 0 && u64::from(entry.layer_number) == k
     };
-    let layer = entries.iter().find(is_k).ok_or(number::NO_SUCH_LAYER)?;
-    let start = u64::from(layer.header_place) + BlockHeader::SIZE;
-    let chunk = part(input, start, LayerChunk::SIZE).ok_or(number::ENDS_TOO_SOON)?;
-    Ok((LayerChunk::decode(chunk), start))
+    let block = entries.iter().find(is_k).ok_or(kind.missing)?;
+    let start = u64::from(block.header_place) + BlockHeader::SIZE;
+    let chunk = part(input, start, kind.size).ok_or(number::ENDS_TOO_SOON)?;
+    Ok((chunk, start))
 }
 
 pub fn layer_facts(input: &[u8], room: usize, k: u64) -> Result<LayerChunk, u32> {
-    layer_chunk(input, room, k).map(|(chunk, _)| chunk)
+    let (chunk, _) = chunk(input, room, &SHOWN_LAYER, k)?;
+    Ok(LayerChunk::decode(chunk))
 }
 
 /// Start in the input and length of the name of layer k. The name is the
 /// chunk's first field.
 pub fn layer_name(input: &[u8], room: usize, k: u64) -> Result<(u64, u64), u32> {
-    layer_chunk(input, room, k).map(|(chunk, start)| (start, chunk.name_length() as u64))
+    let (chunk, start) = chunk(input, room, &SHOWN_LAYER, k)?;
+    Ok((start, LayerChunk::decode(chunk).name_length() as u64))
+}
+
+/// There is at most one selection, and its number is 0.
+pub fn selection_facts(input: &[u8], room: usize) -> Result<SelectionChunk, u32> {
+    let (chunk, _) = chunk(input, room, &SHOWN_SELECTION, 0)?;
+    Ok(SelectionChunk::decode(chunk))
+}
+
+pub fn alpha_facts(input: &[u8], room: usize, k: u64) -> Result<AlphaChunk, u32> {
+    let (chunk, _) = chunk(input, room, &SHOWN_ALPHA, k)?;
+    Ok(AlphaChunk::decode(chunk))
+}
+
+/// Start in the input and length of the name of alpha channel k, which is the
+/// first field of its chunk too.
+pub fn alpha_name(input: &[u8], room: usize, k: u64) -> Result<(u64, u64), u32> {
+    let (chunk, start) = chunk(input, room, &SHOWN_ALPHA, k)?;
+    Ok((start, AlphaChunk::decode(chunk).name_length() as u64))
 }

@@ -50,7 +50,10 @@ fn sizes(case: &Case) -> (u32, usize, u32) {
         | Case::PaletteView { room, input, .. }
         | Case::ImageFacts { room, input }
         | Case::LayerFacts { room, input, .. }
-        | Case::LayerName { room, input, .. } => (*room, input.len(), 0),
+        | Case::LayerName { room, input, .. }
+        | Case::SelectionFacts { room, input }
+        | Case::AlphaFacts { room, input, .. }
+        | Case::AlphaName { room, input, .. } => (*room, input.len(), 0),
         Case::Plane {
             input, destination, ..
         } => (0, input.len(), *destination),

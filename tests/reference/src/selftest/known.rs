@@ -41,6 +41,7 @@ fn whole_files(checks: &mut Checks) {
         (8, 77, 0),
         (8, 844, 4),
         (8, 607, 5),
+        (8, 1_292, 9),
     ];
     checks.equal("files that arrive", answers, expected);
 }
@@ -71,6 +72,7 @@ fn many_blocks(checks: &mut Checks) {
         "T 0 4194291 299559",
         "T 2 4194291 299559",
         "T 0 4194291 299559",
+        "T 0 4194029 25267",
     ];
-    checks.equal("300,000 blocks", lines, expected.map(String::from).to_vec());
+    checks.equal("many blocks", lines, expected.map(String::from).to_vec());
 }

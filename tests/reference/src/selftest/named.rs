@@ -9,11 +9,13 @@ use crate::cases::sweeps::listing;
 use crate::psp::listing::list;
 
 /// The fields that are judged, by the id of their block.
-const FIELDS: [(u16, &[usize]); 4] = [
+const FIELDS: [(u16, &[usize]); 6] = [
     (0, &[0, 4, 16, 17, 19, 21, 23, 27, 36]),
     (2, &[0]),
     (4, &[256, 257, 273, 294, 310, 329, 371, 373]),
     (5, &[4, 8, 10]),
+    (6, &[0, 16, 32, 34]),
+    (8, &[256, 272, 288, 290]),
 ];
 
 pub fn all(checks: &mut Checks, compared: &[Case]) {
@@ -90,7 +92,12 @@ fn named_by(case: &Case) -> Option<(u16, usize)> {
 /// too soon at its start; then the field is named, whatever follows.
 fn arriving(checks: &mut Checks) {
     // The chunk's start and end, the field, and the entries before it.
-    let chunks = [(50, 88, 77, 0), (571, 946, 844, 4), (597, 609, 607, 5)];
+    let chunks = [
+        (50, 88, 77, 0),
+        (571, 946, 844, 4),
+        (597, 609, 607, 5),
+        (1_020, 1_312, 1_292, 9),
+    ];
     for (file, (start, end, field, count)) in beginnings::wrong_fields().iter().zip(chunks) {
         for length in start..=file.len() {
             let answer = if length < end {

@@ -36,6 +36,7 @@ layer-block-spec =
     (tie.spec
     (λ c. search needs)
     (λ c. search needs)
+    (λ c. search needs)
     returns
     (λ c κs. search needs)
     (λ c κs. search needs)
@@ -45,6 +46,5 @@ layer-block-spec =
     (λ c κs. search needs)
     (λ c. search needs)
     with-layer-requires
-    (λ c. search needs)
     returns-2
     returns-3)

@@ -2,7 +2,7 @@ use mathlib.Core.Path.{refl}
 use native.Mathlib.Omega.{arith}
 use borrow.Author.Needs.{needs}
 use Rattle.view.proofs.Place.{part-of}
-use Rattle.view.proofs.Views.{name-is, name-inside}
+use Rattle.view.proofs.Views.{shown-is, name-inside}
 use Rattle.view.proofs.layer_name.name.Statement.{statement}
 use Rattle.view.proofs.layer_name.name.Tie as tie
 
@@ -13,7 +13,7 @@ part-result-end : tie.Need-part-result-end
 part-result-end c = omega (arith, name-inside _ _ _ _ (c .name-part .ensures))
 
 returns : tie.Need-returns
-returns c = name-is (c .before .before .before .args .input) _ _ _ (c .before .name-part .ensures) refl (part-of _ _ _ _)
+returns c = shown-is (c .before .before .before .args .input) (c .before .name-part .ensures) refl (part-of _ _ _ _)
 
 pub name-spec : {M : Type 1} → statement M
 name-spec =

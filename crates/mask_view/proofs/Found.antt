@@ -1,0 +1,45 @@
+-- What is found: the selection and alpha channel k are listed, and their chunks lie inside the input.
+use mathlib.Core.Path.{_≡_, sym, ap, _∙_}
+use mathlib.Core.Bool.{true}
+use mathlib.Core.List.{List}
+use Prim.Native.Nat.{ℕ, _+_, _≤_}
+use native.Mathlib.Omega.{arith}
+use lib.ListN.{length}
+use Rattle.entry.specs.declared.Entry.{Entry}
+use Rattle.chunk.specs.AlphaInformation.{alphaSize}
+use Rattle.chunk.specs.SelectionInformation.{selectionSize}
+use Rattle.listing.specs.Question.{question}
+use Rattle.listing.specs.Right.{SelectionRight, AlphaRight}
+use Rattle.view.specs.declared.sought.Sought.the-variants.{At}
+use Rattle.view.specs.Asked.{asked, isThere}
+use Rattle.view.proofs.Accepted.{kind, so-many, found-listed}
+use Rattle.view.proofs.Asked.{sought-at}
+use Rattle.mask_view.specs.Sought.{selectionSought, alphaSought}
+
+module _ (s : List ℕ) (room : ℕ) where
+  pub selection-has :
+      (there : isThere (question 6 0 0) s room ≡ true)
+      → SelectionRight s (found-listed s room (question 6 0 0) there .before) (asked (question 6 0 0) s room .entry)
+  selection-has there =
+      let l = found-listed s room (question 6 0 0) there in
+      l .right .selection (sym (kind 6 0 (asked (question 6 0 0) s room .entry)) ∙ l .asks)
+
+  pub selection-inside : {at : ℕ} → selectionSought s room ≡ At at → at + selectionSize ≤ length s
+  selection-inside e = let found = sought-at s room 6 46 0 e in omega (arith, selection-has (found .0) .only .inside, found .1)
+
+  module _ (k : ℕ) where
+    pub alpha-has :
+        (there : isThere (question 8 0 k) s room ≡ true)
+        → AlphaRight s (found-listed s room (question 8 0 k) there .before) (asked (question 8 0 k) s room .entry)
+    alpha-has there =
+        let l = found-listed s room (question 8 0 k) there in
+        l .right .alpha (sym (kind 8 k (asked (question 8 0 k) s room .entry)) ∙ l .asks)
+
+    -- the alpha channel that is found for k has the rank k in the table
+    pub alpha-number : isThere (question 8 0 k) s room ≡ true → asked (question 8 0 k) s room .entry .layer ≡ k
+    alpha-number there =
+        let l = found-listed s room (question 8 0 k) there in
+        ap (λ (e : Entry). e .layer) (alpha-has there .is) ∙ sym (so-many 8 k (l .before)) ∙ l .index
+
+    pub alpha-inside : {at : ℕ} → alphaSought s room k ≡ At at → at + alphaSize ≤ length s
+    alpha-inside e = let found = sought-at s room 8 47 k e in omega (arith, alpha-has (found .0) .inside, found .1)
