@@ -89,20 +89,20 @@ image-first s room d h = each-right s room 0 d h .first refl
 pub layers-numbered :
     (s : List ℕ) (room : ℕ)
     → let es = listed s room .entries in (k : ℕ) (d : Entry) → k < length es → isLayer (getD es k d) ≡ true → getD es k d .layer ≡ layersIn (take k es)
-layers-numbered s room k d h z = ap (λ (e : Entry). e .layer) (each-right s room k d h .layer z .is)
+layers-numbered s room k d h z = ap (λ (e : Entry). e .layer) (each-right s room k d h .kind 4 z .is)
 
 -- and an alpha channel's the count of alpha channels before it
 pub alphas-numbered :
     (s : List ℕ) (room : ℕ)
     → let es = listed s room .entries in
     (k : ℕ) (d : Entry) → k < length es → isAlpha (getD es k d) ≡ true → getD es k d .layer ≡ membersIn AlphaBank (take k es)
-alphas-numbered s room k d h z = ap (λ (e : Entry). e .layer) (each-right s room k d h .alpha z .is)
+alphas-numbered s room k d h z = ap (λ (e : Entry). e .layer) (each-right s room k d h .kind 8 z .is)
 
 -- a channel's row is one of its forms, the padded one wherever that makes the plane, and as many rows as it is high are its plane
 pub rows-taken :
     (s : List ℕ) (room : ℕ)
     → let es = listed s room .entries in (k : ℕ) (d : Entry) → k < length es → isChannel (getD es k d) ≡ true → RowTaken (depthOf s) (getD es k d)
-rows-taken s room k d h z = each-right s room k d h .channel z .row
+rows-taken s room k d h z = each-right s room k d h .kind 5 z .row
 
 accepted-whole : (s : List ℕ) (room : ℕ) → listed s room .answer ≡ Accepted → Whole s (listed s room .entries)
 accepted-whole s room =

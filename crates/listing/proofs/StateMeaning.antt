@@ -55,7 +55,7 @@ use Rattle.kinds.specs.Blocks.{skippedBy}
 use Rattle.layers.specs.Layers.{channelEntry, isAwaited}
 use Rattle.block.specs.Step.{stepAt}
 use Rattle.block.proofs.Stepped.{IsPalette, IsSkip, IsChannel, an-image, a-palette, a-channel, a-skip, a-bank, a-layer, a-selection, an-alpha-bank, an-alpha, Stepped, accepted, ended, leafed, nested, stepped}
-use Rattle.listing.specs.Right.{isKind, isPalette, isBank, isLayer, isChannel, isSelection, isAlphaBank, isAlpha, parentOf, isMember, membersIn, layersIn, codesIn, imageIn, depthOf, layerFrom, selectionFrom, alphaBankFrom, alphaFrom, announcedIn, faultIn, channelsIn, savedIn, Awaited, Completed, Full, FullAs, ImageRight, OnlyRight, MemberRight, shapeIn, Right}
+use Rattle.listing.specs.Right.{isKind, isPalette, isBank, isLayer, isChannel, isSelection, isAlphaBank, isAlpha, parentOf, isMember, membersIn, layersIn, codesIn, imageIn, depthOf, layerFrom, selectionFrom, alphaBankFrom, alphaFrom, announcedIn, faultIn, channelsIn, savedIn, Awaited, Completed, Full, FullAs, ImageRight, OnlyRight, MemberRight, SkipRight, shapeIn, RightAs, Right}
 use Rattle.listing.proofs.CodesRemembered.{came-in-once, came-in-all, expected-ind}
 use Rattle.listing.proofs.Holding.{one-more, as-many, Holdless, no-member, nothing-held, isMet, InBank, InHost, Inside, at-main, in-bank, in-selection, in-member, new-bank, bank-member, still-in-bank, new-host, still-in-host, host-channel, hasMembers}
 
@@ -131,6 +131,22 @@ module _ (s : List ℕ) where
   pub data CameTo : ℕ → ℕ → List Entry → State → Type 0 where
     fresh : CameTo main fileHeaderSize [] start
     begun : {levels at : ℕ} {es : List Entry} {st : State} → Underway levels es st → CameTo levels at es st
+
+  -- ### An entry is right, by what its own id asks
+
+  as-own : (own : ℕ) (before : List Entry) (e : Entry) → RightAs own s before e → (id : ℕ) → eqb own id ≡ true → RightAs id s before e
+  as-own own before e right id z = subst (λ (n : ℕ). RightAs n s before e) (eqb-true own id z) right
+
+  right-of :
+      {levels : ℕ} {es : List Entry} {st : State} → Underway levels es st → (e : Entry) → e .block .level ≡ levelOf levels
+      → ((id : ℕ) → isKind id e ≡ true → RightAs id s es e) → (e .block .skipped ≡ 1 → SkipRight s e) → Right s es e
+  right-of u e here kind skipped = record {
+    image = u .known .image;
+    first = λ z. absurd (u .known .some z);
+    closed = λ l low. u .closed l (omega arith);
+    kind = kind;
+    skipped = skipped;
+  }
 
   module _ {levels : ℕ} {es : List Entry} {st : State} (u : Underway levels es st) where
     pub depth-is : st .image .depth ≡ depthOf s
@@ -234,13 +250,7 @@ module _ (s : List ℕ) where
       image = image;
       first = λ _. refl;
       closed = λ l low. tt;
-      palette = λ z. never z;
-      bank = λ z. never z;
-      layer = λ z. never z;
-      channel = λ z. never z;
-      selection = λ z. never z;
-      alpha-bank = λ z. never z;
-      alpha = λ z. never z;
+      kind = as-own 0 [] image-entry tt;
       skipped = λ z. absurd (omega arith);
     }
 
@@ -263,11 +273,8 @@ module _ (s : List ℕ) where
       palette-right : Right s es palette-entry
       palette-right =
           let rules = palette-rules (st .image .depth) (paletteAt s (at + blockHeaderSize)) (i .permitted-all) in
-          record {
-            image = u .known .image;
-            first = λ z. absurd (u .known .some z);
-            closed = u .closed;
-            palette = λ _. record {
+          right-of u palette-entry refl
+          (as-own 2 es palette-entry (record {
               count = i .count;
               counted = i .is;
               low = subst⁻¹ (λ (n : ℕ). 1 ≤ n) (i .is) (rules .low);
@@ -276,15 +283,7 @@ module _ (s : List ℕ) where
               inside = i .present;
               used = used-here;
               once = no-palette;
-            };
-            bank = λ z. never z;
-            layer = λ z. never z;
-            channel = λ z. never z;
-            selection = λ z. never z;
-            alpha-bank = λ z. never z;
-            alpha = λ z. never z;
-            skipped = λ z. absurd (omega arith);
-          }
+          })) (λ z. absurd (omega arith))
 
     module _ {at end next : ℕ} {e : Entry} {q : State} (i : IsSkip s st at end levels e next q) where
       abbrev skip-entry : Entry
@@ -302,19 +301,8 @@ module _ (s : List ℕ) where
           (λ _. passes es skip-entry none refl low refl u (st .met .palette) (λ used. met-same isPalette es skip-entry refl (u .known .palette used)))
 
       skip-right : Right s es skip-entry
-      skip-right = record {
-        image = u .known .image;
-        first = λ z. absurd (u .known .some z);
-        closed = u .closed;
-        palette = λ z. never z;
-        bank = λ z. never z;
-        layer = λ z. never z;
-        channel = λ z. never z;
-        selection = λ z. never z;
-        alpha-bank = λ z. never z;
-        alpha = λ z. never z;
-        skipped = λ _. record { is = refl; inside = i .present; unused = unused-here };
-      }
+      skip-right =
+          right-of u skip-entry refl (λ id z. never z) (λ _. record { is = refl; inside = i .present; unused = unused-here })
 
   -- ### A main block that comes once is entered
 
@@ -359,19 +347,7 @@ module _ (s : List ℕ) where
         }
 
     bank-right : at + blockHeaderSize ≤ length s → Right s es bank-entry
-    bank-right there = record {
-      image = u .known .image;
-      first = λ z. absurd (u .known .some z);
-      closed = u .closed;
-      palette = λ z. never z;
-      bank = λ _. only u 3 blockHeaderSize at (u .known .bank .none once) there;
-      layer = λ z. never z;
-      channel = λ z. never z;
-      selection = λ z. never z;
-      alpha-bank = λ z. never z;
-      alpha = λ z. never z;
-      skipped = λ z. absurd (omega arith);
-    }
+    bank-right there = right-of u bank-entry refl (as-own 3 es bank-entry (only u 3 blockHeaderSize at (u .known .bank .none once) there)) (λ z. absurd (omega arith))
 
   module _ {es : List Entry} {st : State} (u : Underway main es st) (at : ℕ) (once : st .met .alphas ≡ false) where
     abbrev alpha-bank-entry : Entry
@@ -401,19 +377,7 @@ module _ (s : List ℕ) where
         }
 
     alpha-bank-right : at + alphaBankHead ≤ length s → Right s es alpha-bank-entry
-    alpha-bank-right there = record {
-      image = u .known .image;
-      first = λ z. absurd (u .known .some z);
-      closed = u .closed;
-      palette = λ z. never z;
-      bank = λ z. never z;
-      layer = λ z. never z;
-      channel = λ z. never z;
-      selection = λ z. never z;
-      alpha-bank = λ _. only u 7 alphaBankHead at (u .known .alpha-bank .none once) there;
-      alpha = λ z. never z;
-      skipped = λ z. absurd (omega arith);
-    }
+    alpha-bank-right there = right-of u alpha-bank-entry refl (as-own 7 es alpha-bank-entry (only u 7 alphaBankHead at (u .known .alpha-bank .none once) there)) (λ z. absurd (omega arith))
 
   module _ {es : List Entry} {st : State} (u : Underway main es st) (at : ℕ) (once : st .met .selection ≡ false)
       (good : faultIn s Selection at ≡ None) where
@@ -443,19 +407,7 @@ module _ (s : List ℕ) where
         }
 
     selection-right : at + selectionHead ≤ length s → Right s es selection-entry
-    selection-right there = record {
-      image = u .known .image;
-      first = λ z. absurd (u .known .some z);
-      closed = u .closed;
-      palette = λ z. never z;
-      bank = λ z. never z;
-      layer = λ z. never z;
-      channel = λ z. never z;
-      selection = λ _. record { only = only u 6 selectionHead at (u .known .selection .none once) there; permitted = good };
-      alpha-bank = λ z. never z;
-      alpha = λ z. never z;
-      skipped = λ z. absurd (omega arith);
-    }
+    selection-right there = right-of u selection-entry refl (as-own 6 es selection-entry (record { only = only u 6 selectionHead at (u .known .selection .none once) there; permitted = good })) (λ z. absurd (omega arith))
 
   -- ### A member of the open bank is entered
 
@@ -530,19 +482,7 @@ module _ (s : List ℕ) where
         (λ other. absurd (other is))
 
     layer-right : at + layerHead ≤ length s → Right s es layer-entry
-    layer-right there = record {
-      image = u .known .image;
-      first = λ z. absurd (u .known .some z);
-      closed = u .closed;
-      palette = λ z. never z;
-      bank = λ z. never z;
-      layer = λ _. member-right u is its-bank layer-entry refl refl refl good there;
-      channel = λ z. never z;
-      selection = λ z. never z;
-      alpha-bank = λ z. never z;
-      alpha = λ z. never z;
-      skipped = λ z. absurd (omega arith);
-    }
+    layer-right there = right-of u layer-entry refl (as-own 4 es layer-entry (member-right u is its-bank layer-entry refl refl refl good there)) (λ z. absurd (omega arith))
 
   module _ {es : List Entry} {st : State} (u : Underway 1 es st) (is : st .opened ≡ opens.Alphas) (at : ℕ) (good : faultIn s Alpha at ≡ None) where
     abbrev its-alpha-bank : InBank s opens.Alphas es (st .members)
@@ -561,19 +501,7 @@ module _ (s : List ℕ) where
         (λ _. refl)
 
     alpha-right : at + alphaHead ≤ length s → Right s es alpha-entry
-    alpha-right there = record {
-      image = u .known .image;
-      first = λ z. absurd (u .known .some z);
-      closed = u .closed;
-      palette = λ z. never z;
-      bank = λ z. never z;
-      layer = λ z. never z;
-      channel = λ z. never z;
-      selection = λ z. never z;
-      alpha-bank = λ z. never z;
-      alpha = λ _. member-right u is its-alpha-bank alpha-entry refl refl refl good there;
-      skipped = λ z. absurd (omega arith);
-    }
+    alpha-right there = right-of u alpha-entry refl (as-own 8 es alpha-entry (member-right u is its-alpha-bank alpha-entry refl refl refl good there)) (λ z. absurd (omega arith))
 
   -- ### A channel
 
@@ -674,14 +602,9 @@ module _ (s : List ℕ) where
     channel-right :
         c ≡ channelAt s (at + blockHeaderSize) → at + channelHead + c .stored ≤ length s → isPlane shape (c .plane) ≡ true → Right s es channel-entry
     unfolding sizeOf
-    channel-right is present plane = record {
-      image = u .known .image;
-      first = λ z. absurd (u .known .some z);
-      closed = u .closed;
-      palette = λ z. never z;
-      bank = λ z. never z;
-      layer = λ z. never z;
-      channel = λ _.
+    channel-right is present plane =
+        right-of u channel-entry refl
+        (as-own 5 es channel-entry (
           let by : (F : Parent → Type 0) → F p → F (parentOf (its-host .host)) = λ F x. subst⁻¹ F (its-host .is-host) x in
           record {
             parent = its-host .host;
@@ -704,12 +627,7 @@ module _ (s : List ℕ) where
             row =
                 subst (λ (f : Shape). Taken (shapeOf (shape .sides) (f .bits) (f .short)) (c .plane) (rowFor shape (c .plane))) shape-is
                 (taken shape (c .plane) plane);
-          };
-      selection = λ z. never z;
-      alpha-bank = λ z. never z;
-      alpha = λ z. never z;
-      skipped = λ z. absurd (omega arith);
-    }
+          })) (λ z. absurd (omega arith))
 
   -- ### An end
 

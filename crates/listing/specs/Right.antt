@@ -288,18 +288,28 @@ pub record SkipRight (s : List ℕ) (e : Entry) : Type 0 where
   pub inside : e .content .start + e .content .stored ≤ length s
   pub unused : e .block .id ≡ 2 → depthOf s ≡ 24
 
+-- an entry that is not skipped, by its id; of the image all is said where the first entry is
+abbrev choose : Bool → Type 0 → Type 0 → Type 0
+choose true A B = A
+choose false A B = B
+
+abbrev pub RightAs : ℕ → List ℕ → List Entry → Entry → Type 0
+RightAs id s before e =
+    choose (eqb id 2) (PaletteRight s before e)
+    (choose (eqb id 3) (BankRight s before e)
+    (choose (eqb id 4) (LayerRight s before e)
+    (choose (eqb id 5) (ChannelRight s before e)
+    (choose (eqb id 6) (SelectionRight s before e)
+    (choose (eqb id 7) (AlphaBankRight s before e)
+    (choose (eqb id 8) (AlphaRight s before e)
+    Unit))))))
+
 -- any entry: the first is the image; whatever it does not lie inside of has come to its end
 pub record Right (s : List ℕ) (before : List Entry) (e : Entry) : Type 0 where
   pub image : ImageRight s
   pub first : before ≡ [] → e ≡ plain (block 0 0 0 imagePlace imageHead)
   pub closed : (level : ℕ) → e .block .level ≤ level → Of (Full s) (holder level before)
-  pub palette : isPalette e ≡ true → PaletteRight s before e
-  pub bank : isBank e ≡ true → BankRight s before e
-  pub layer : isLayer e ≡ true → LayerRight s before e
-  pub channel : isChannel e ≡ true → ChannelRight s before e
-  pub selection : isSelection e ≡ true → SelectionRight s before e
-  pub alpha-bank : isAlphaBank e ≡ true → AlphaBankRight s before e
-  pub alpha : isAlpha e ≡ true → AlphaRight s before e
+  pub kind : (id : ℕ) → isKind id e ≡ true → RightAs id s before e
   pub skipped : e .block .skipped ≡ 1 → SkipRight s e
 
 -- and it has the id of the header at its place, and all that this announces where it is skipped

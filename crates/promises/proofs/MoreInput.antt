@@ -41,7 +41,7 @@ module _ (s t : List ℕ) (room more : ℕ) (small : length (s ++ t) ≤ inputLi
       let e = getD es k d in
       ap (λ (x : Entry). planeOf (s ++ t) x dest) (entry-kept k d some .1)
       ∙ ap (λ (c : ImageChunk). planeRead (s ++ t) (e .content .start) (e .content .stored) (e .size .plane) (c .compression) dest) (image-kept (omega arith))
-      ∙ plane-longer s t (e .content .start) (e .content .stored) (e .size .plane) (imageIn s .compression) dest (each-right s room k d some .channel channel .inside)
+      ∙ plane-longer s t (e .content .start) (e .content .stored) (e .size .plane) (imageIn s .compression) dest (each-right s room k d some .kind 5 channel .inside)
 
   -- more input never takes anything back
   pub more-input : Kept s t room more

@@ -63,12 +63,12 @@ module _ (s : List ℕ) (room : ℕ) where
 
   -- its entries lie inside the input
   pub palette-has : (there : isThere paletteAsked s room ≡ true) → PaletteRight s (found-listed paletteAsked there .before) (asked paletteAsked s room .entry)
-  palette-has there = let l = found-listed paletteAsked there in l .right .palette (sym (kind 2 0 (asked paletteAsked s room .entry)) ∙ l .asks)
+  palette-has there = let l = found-listed paletteAsked there in l .right .kind 2 (sym (kind 2 0 (asked paletteAsked s room .entry)) ∙ l .asks)
 
   module _ (k : ℕ) (there : isThere (layerAsked k) s room ≡ true) where
     -- its chunk lies inside the input, and its fields are permitted
     pub layer-has : LayerRight s (found-listed (layerAsked k) there .before) (asked (layerAsked k) s room .entry)
-    layer-has = let l = found-listed (layerAsked k) there in l .right .layer (sym (kind 4 k (asked (layerAsked k) s room .entry)) ∙ l .asks)
+    layer-has = let l = found-listed (layerAsked k) there in l .right .kind 4 (sym (kind 4 k (asked (layerAsked k) s room .entry)) ∙ l .asks)
 
     -- the layer that is found for k has the number k in the table
     pub layer-number : asked (layerAsked k) s room .entry .layer ≡ k

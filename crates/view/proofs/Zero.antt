@@ -8,10 +8,11 @@ use native.Mathlib.Numerals.{add-one}
 use borrow.Author.Tests.{eq-eqb, ne-eqb}
 use lib.Dec.{eqb}
 use lib.ListN.{length, take, drop, getD, drop-of-length-le}
-use lib.Seq.{drop-cons}
+use lib.Seq.{drop-cons, take-take}
 use Rattle.laws.specs.Lists.{part}
 use Rattle.laws.proofs.Choice.{pick-yes, pick-no, pick-ind}
 use Rattle.laws.proofs.Part.{lent}
+use Rattle.chunk.specs.LayerInformation.{layerOf, layerAt}
 use Rattle.view.specs.Name.{beforeZero}
 
 pub zero-most : (l : List ℕ) → beforeZero l ≤ length l
@@ -52,3 +53,8 @@ module _ (l : List ℕ) where
 -- what is counted of `&s[at..at + 256]`
 pub name-length : (s : List ℕ) (at : ℕ) → beforeZero (take (at + 256 - at) (drop at s)) ≡ beforeZero (part s at 256)
 name-length s at = ap beforeZero (lent s at 256)
+
+-- the name that a layer's facts have is the part that is shown up to its first zero
+pub name-field : (s : List ℕ) (at : ℕ) → layerAt s at .name ≡ part s at 256
+unfolding layerOf part
+name-field s at = take-take 256 375 (drop at s) (omega arith)
