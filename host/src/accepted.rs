@@ -2,6 +2,7 @@
 
 use crate::answer::{self, Refused};
 use crate::failure::Failure;
+use crate::fields;
 use crate::holder::{Chunk, Holder, Which};
 use crate::identity::Identity;
 use crate::lines;
@@ -134,19 +135,34 @@ impl Accepted {
         self.known.iter().filter_map(Which::of)
     }
 
-    /// Those that are asked for, with all that the views show of them: each view lists the file.
+    /// Those that are asked for, with all that the views show of them.
     pub fn holders_of(&self, is_asked: impl Fn(Which) -> bool) -> Result<Vec<Holder>, Failure> {
-        let asked = self.holders().filter(|&which| is_asked(which));
-        asked.map(|which| self.holder(which)).collect()
+        let mut holders = Vec::new();
+        for (index, entry) in self.known.iter().enumerate() {
+            if let Some(which) = Which::of(entry).filter(|&which| is_asked(which)) {
+                let (name, chunk) = self.shown(which, entry)?;
+                let bitmaps = self.behind(index).map(|entry| entry.bitmap).collect();
+                holders.push(Holder {
+                    which,
+                    name,
+                    chunk,
+                    bitmaps,
+                });
+            }
+        }
+        Ok(holders)
     }
 
-    fn holder(&self, which: Which) -> Result<Holder, Failure> {
-        Ok(Holder {
-            which,
-            name: self.name(which)?.map(<[u8]>::to_vec),
-            chunk: self.chunk(which)?,
-            bitmaps: self.channels(which).map(|entry| entry.bitmap).collect(),
-        })
+    /// Name and chunk. Each view lists the file, and there may be 65,535 alpha channels: their fields
+    /// are read where the listing has them, which host/tests/fields.rs compares with the views.
+    fn shown(&self, which: Which, entry: &Entry) -> Result<(Option<Vec<u8>>, Chunk), Failure> {
+        if let Which::Alpha(_) = which {
+            if let Some(chunk) = fields::holder(&self.bytes, entry) {
+                return Ok((chunk.name().map(<[u8]>::to_vec), chunk));
+            }
+        }
+        let name = self.name(which)?.map(<[u8]>::to_vec);
+        Ok((name, self.chunk(which)?))
     }
 
     fn name(&self, which: Which) -> Result<Option<&[u8]>, Failure> {
@@ -175,11 +191,17 @@ impl Accepted {
         }
     }
 
-    /// The channels in one of them, in file order: those behind it up to the next known block, since
-    /// it holds nothing else that is known.
+    /// The channels in one of them, in file order.
     pub fn channels(&self, which: Which) -> impl Iterator<Item = &Entry> + '_ {
-        let is_other = move |entry: &&Entry| Which::of(entry) != Some(which);
-        let behind = self.known.iter().skip_while(is_other).skip(1);
+        let is_it = |entry: &Entry| Which::of(entry) == Some(which);
+        let index = self.known.iter().position(is_it);
+        self.behind(index.unwrap_or(self.known.len()))
+    }
+
+    /// The channels in the one at an index: those behind it up to the next known block, since it
+    /// holds nothing else that is known.
+    fn behind(&self, index: usize) -> impl Iterator<Item = &Entry> + '_ {
+        let behind = self.known.iter().skip(index.saturating_add(1));
         behind.take_while(|entry| entry.id == CHANNEL)
     }
 }

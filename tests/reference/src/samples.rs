@@ -3,14 +3,14 @@
 
 mod mug;
 
-pub use mug::{mug, narrow_mug};
+pub use mug::{mug, narrow_mug, varnished_mug};
 
 use crate::psp::planes::packed_form;
 use crate::psp::rectangle::Rectangle;
 use crate::write::{self, Alpha, Area, Form, Image, InAlphaBank, InBank, Layer, Picture, Skipped};
 
 /// The names that `sample` knows.
-pub const NAMES: [&str; 13] = [
+pub const NAMES: [&str; 14] = [
     "grey521",
     "layers11",
     "palette",
@@ -24,6 +24,7 @@ pub const NAMES: [&str; 13] = [
     "mug",
     "mug-padded",
     "mug-unpadded",
+    "mug-varnish",
 ];
 
 pub fn sample(name: &str) -> Option<Picture> {
@@ -41,6 +42,7 @@ pub fn sample(name: &str) -> Option<Picture> {
         "mug" => Some(mug()),
         "mug-padded" => Some(narrow_mug(Form::Padded)),
         "mug-unpadded" => Some(narrow_mug(Form::Unpadded)),
+        "mug-varnish" => Some(varnished_mug()),
         _ => None,
     }
 }

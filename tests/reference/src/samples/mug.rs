@@ -6,7 +6,7 @@
 
 use crate::psp::planes::packed_form;
 use crate::psp::rectangle::Rectangle;
-use crate::write::{Form, Image, InBank, Layer, Picture};
+use crate::write::{self, Alpha, Area, Form, Image, InAlphaBank, InBank, Layer, Picture};
 
 const WIDTH: i32 = 96;
 const HEIGHT: i32 = 64;
@@ -80,6 +80,27 @@ pub fn narrow_mug(form: Form) -> Picture {
         },
         form,
     })
+}
+
+/// The decal with its heart selected, and with two areas for the varnishing
+/// screens, drawn as alpha channels.
+pub fn varnished_mug() -> Picture {
+    let area = |saved: [i32; 4], bitmap, coverage: Coverage| {
+        let [left, top, right, bottom] = saved;
+        let saved = Rectangle::new(left, top, right, bottom);
+        Area::new(saved)
+            .within(Rectangle::new(0, 0, WIDTH, HEIGHT))
+            .with(bitmap, plane(saved, Form::Padded, coverage))
+    };
+    let alpha = |name, saved, coverage| {
+        InAlphaBank::Alpha(Alpha::new(name, area(saved, write::ALPHA, coverage)))
+    };
+    mug()
+        .selection(area([36, 20, 60, 46], write::SELECTION, heart))
+        .alphas(vec![
+            alpha("Varnish", [20, 14, 76, 50], disc),
+            alpha("Foil", [16, 12, 80, 52], ring),
+        ])
 }
 
 fn decal(cut: &Cut) -> Picture {
