@@ -275,14 +275,14 @@ module _ (s : List ℕ) where
           let rules = palette-rules (st .image .depth) (paletteAt s (at + blockHeaderSize)) (i .permitted-all) in
           right-of u palette-entry refl
           (as-own 2 es palette-entry (record {
-              count = i .count;
-              counted = i .is;
-              low = subst⁻¹ (λ (n : ℕ). 1 ≤ n) (i .is) (rules .low);
-              high = subst₂ (λ (n d : ℕ). n ≤ 2 ^ d) (sym (i .is)) (depth-is u) (rules .high);
-              is = ap (λ (l : ℕ). filled (block 2 0 (levelOf l) at (paletteHead + 4 * i .count)) (content (at + paletteHead) (4 * i .count))) (i .top);
-              inside = i .present;
-              used = used-here;
-              once = no-palette;
+            count = i .count;
+            counted = i .is;
+            low = subst⁻¹ (λ (n : ℕ). 1 ≤ n) (i .is) (rules .low);
+            high = subst₂ (λ (n d : ℕ). n ≤ 2 ^ d) (sym (i .is)) (depth-is u) (rules .high);
+            is = ap (λ (l : ℕ). filled (block 2 0 (levelOf l) at (paletteHead + 4 * i .count)) (content (at + paletteHead) (4 * i .count))) (i .top);
+            inside = i .present;
+            used = used-here;
+            once = no-palette;
           })) (λ z. absurd (omega arith))
 
     module _ {at end next : ℕ} {e : Entry} {q : State} (i : IsSkip s st at end levels e next q) where
@@ -605,29 +605,29 @@ module _ (s : List ℕ) where
     channel-right is present plane =
         right-of u channel-entry refl
         (as-own 5 es channel-entry (
-          let by : (F : Parent → Type 0) → F p → F (parentOf (its-host .host)) = λ F x. subst⁻¹ F (its-host .is-host) x in
-          record {
-            parent = its-host .host;
-            others = its-host .channels;
-            up = h .up;
-            level = h .level;
-            held-by = its-host .last;
-            permitted = by (λ q. faultIn s q its-place ≡ None) (its-host .permitted);
-            number = its-host .number;
-            awaited = by (λ q. Awaited q (depthOf s) (codesIn (its-host .channels)) (code (c .bitmap) (c .channel))) awaited;
-            bitmap = ap (λ (x : ChannelChunk). x .bitmap) is;
-            channel = ap (λ (x : ChannelChunk). x .channel) is;
-            stored = ap (λ (x : ChannelChunk). x .stored) is;
-            owned = refl;
-            start = refl;
-            inside = present;
-            width = by (λ q. shape .sides .width ≡ widthOf (savedIn s q its-place (c .bitmap))) (ap (λ (f : Shape). f .sides .width) shape-is);
-            height = by (λ q. shape .sides .height ≡ heightOf (savedIn s q its-place (c .bitmap))) (ap (λ (f : Shape). f .sides .height) shape-is);
-            plane = ap (λ (x : ChannelChunk). x .plane) is;
-            row =
-                subst (λ (f : Shape). Taken (shapeOf (shape .sides) (f .bits) (f .short)) (c .plane) (rowFor shape (c .plane))) shape-is
-                (taken shape (c .plane) plane);
-          })) (λ z. absurd (omega arith))
+        let by : (F : Parent → Type 0) → F p → F (parentOf (its-host .host)) = λ F x. subst⁻¹ F (its-host .is-host) x in
+        record {
+          parent = its-host .host;
+          others = its-host .channels;
+          up = h .up;
+          level = h .level;
+          held-by = its-host .last;
+          permitted = by (λ q. faultIn s q its-place ≡ None) (its-host .permitted);
+          number = its-host .number;
+          awaited = by (λ q. Awaited q (depthOf s) (codesIn (its-host .channels)) (code (c .bitmap) (c .channel))) awaited;
+          bitmap = ap (λ (x : ChannelChunk). x .bitmap) is;
+          channel = ap (λ (x : ChannelChunk). x .channel) is;
+          stored = ap (λ (x : ChannelChunk). x .stored) is;
+          owned = refl;
+          start = refl;
+          inside = present;
+          width = by (λ q. shape .sides .width ≡ widthOf (savedIn s q its-place (c .bitmap))) (ap (λ (f : Shape). f .sides .width) shape-is);
+          height = by (λ q. shape .sides .height ≡ heightOf (savedIn s q its-place (c .bitmap))) (ap (λ (f : Shape). f .sides .height) shape-is);
+          plane = ap (λ (x : ChannelChunk). x .plane) is;
+          row =
+              subst (λ (f : Shape). Taken (shapeOf (shape .sides) (f .bits) (f .short)) (c .plane) (rowFor shape (c .plane))) shape-is
+              (taken shape (c .plane) plane);
+        })) (λ z. absurd (omega arith))
 
   -- ### An end
 

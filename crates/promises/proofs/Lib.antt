@@ -3,3 +3,4 @@ pub mod EveryInput
 pub mod TableAndPlanes
 pub mod MoreInput
 pub mod WhichField
+pub mod Masks

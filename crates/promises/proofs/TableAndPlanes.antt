@@ -1,14 +1,11 @@
 -- Demand 2, shown: the table in file order and right entry by entry, an accepted file owned whole, planes that are what their packets mean.
-use mathlib.Core.Path.{_≡_, refl, sym, ap, subst, _∙_}
-use mathlib.Core.Bool.{true}
-use mathlib.Core.List.{List, [], _∷_, List·Memᴰ, List·Memᴰ·eq-of-singleton}
+use mathlib.Core.Path.{_≡_, refl, sym, ap, _∙_}
+use mathlib.Core.List.{List}
 use Prim.Native.Nat.{ℕ, _+_, _≤_, _<_}
 use native.Mathlib.Numerals.{lt-of-le-of-ne}
 use native.Mathlib.Omega.{arith}
 use borrow.Author.Tests.{ltb-false, eqb-true, eqb-false}
-use lib.ListN.{length, getD}
-use Rattle.laws.specs.All.{All, both}
-use Rattle.laws.specs.Choice.{pick}
+use lib.ListN.{length}
 use Rattle.laws.specs.Lists.{part}
 use Rattle.laws.specs.Results.{Result}
 use Rattle.laws.proofs.Choice.{pick-ind}
@@ -16,18 +13,13 @@ use Rattle.laws.proofs.Part.{part-length}
 use Rattle.laws.proofs.Filter.{filter-at}
 use Rattle.limits.specs.Limits.{planeLimit}
 use Rattle.answer.specs.declared.Answer.the-variants as answers
-use Rattle.entry.specs.declared.Code.{Code}
 use Rattle.entry.specs.declared.Entry.{Entry}
-use Rattle.entry.specs.Entry.{block, plain}
 use Rattle.walk.proofs.Tiling.{tiles-order}
 use Rattle.listing.specs.Listing.{listed}
-use Rattle.chunk.proofs.Rules.{mask-rules}
-use Rattle.memory.specs.declared.parent.Parent.{Parent}
-use Rattle.listing.specs.Right.{isKind, isLayer, isAlpha, parentOf, FullAs}
-use Rattle.listing.proofs.Holding.{kind-parent}
+use Rattle.listing.specs.Right.{isLayer}
 use Rattle.listing.proofs.Tiled.{accepted-tiled, accepted-owner, found-before}
 use Rattle.listing.proofs.Prefix.{listed-good}
-use Rattle.listing.proofs.RightEntries.{each-right, each-headed, layers-numbered, alphas-numbered, accepted-complete}
+use Rattle.listing.proofs.RightEntries.{each-right, each-headed, layers-numbered, accepted-complete}
 use Rattle.packet.specs.declared.told.Plane.{Plane}
 use Rattle.packet.specs.Stream.{Outcome, bytes, refused, meaning}
 use Rattle.packet.specs.Reading.{untouched, filled, verdict, laid, unpacked, planeRead}
@@ -37,7 +29,7 @@ use Rattle.packet.proofs.FullPackets.{stream-means, means-packets}
 use Rattle.packer.specs.declared.told.Packed.{Packed}
 use Rattle.packer.specs.Packing.{packs}
 use Rattle.packer.proofs.WayBack.{pack-read}
-use Rattle.promises.specs.TableAndPlanes.{InOrder, EachRight, heldBy, MasksWhole, WholeFile, Meant, raw, packed, MeantPlane, ReadsMeant, ReadsBack}
+use Rattle.promises.specs.TableAndPlanes.{InOrder, EachRight, WholeFile, Meant, raw, packed, MeantPlane, ReadsMeant, ReadsBack}
 
 -- ### The table
 
@@ -49,38 +41,11 @@ module _ (s : List ℕ) (room : ℕ) where
     layer-numbers = λ k d some.
         let p = filter-at isLayer (listed s room .entries) k d some in
         ap (λ (e : Entry). e .layer) (p .is) ∙ layers-numbered s room (p .index) d (p .inside) (p .passes) ∙ p .before;
-    alpha-ranks = λ k d some.
-        let p = filter-at isAlpha (listed s room .entries) k d some in
-        ap (λ (e : Entry). e .layer) (p .is) ∙ alphas-numbered s room (p .index) d (p .inside) (p .passes) ∙ p .before;
   }
 
   -- each entry by document 01's rules
   pub entries-right : EachRight s (listed s room .entries)
   entries-right k d some = (each-right s room k d some, each-headed s room k d some)
-
-  -- what is full as its kind says
-  held-as :
-      listed s room .answer ≡ answers.Accepted → (id k : ℕ) (d : Entry)
-      → let es = listed s room .entries in
-      k < length es → isKind id (getD es k d) ≡ true → FullAs s (parentOf (plain (block id 0 0 0 0))) (getD es k d .block .place) (heldBy es k d)
-  held-as good id k d some is =
-      let es = listed s room .entries in
-      subst (λ (p : Parent). FullAs s p (getD es k d .block .place) (heldBy es k d)) (kind-parent id (getD es k d) is)
-      (accepted-complete s room good .full k d some)
-
-  masks-whole : listed s room .answer ≡ answers.Accepted → MasksWhole s (listed s room .entries)
-  unfolding parentOf pick
-  masks-whole good = record {
-    selection = λ k d some is. let f = held-as good 6 k d some is in one-code _ _ (f .count ∙ mask-rules 0 _ (f .permitted) .channels) (f .all);
-    alpha-bank = λ k d some is. held-as good 7 k d some is;
-    alpha = λ k d some is. let f = held-as good 8 k d some is in one-code _ _ (f .count ∙ mask-rules 256 _ (f .permitted) .channels) (f .all);
-  }
-    where
-      -- a list of one, which has this
-      one-code : (x : Code) (codes : List Code) → length codes ≡ 1 → All (λ (y : Code). List·Memᴰ y codes) (x ∷ []) → codes ≡ x ∷ []
-      one-code x [] one all = absurd (omega arith)
-      one-code x (y ∷ []) one (both m rest) = ap (λ (z : Code). z ∷ []) (sym (List·Memᴰ·eq-of-singleton m))
-      one-code x (y ∷ (z ∷ codes)) one all = absurd (omega arith)
 
   -- an accepted file is owned whole, byte by byte, and complete
   pub whole-file : listed s room .answer ≡ answers.Accepted → WholeFile s (listed s room .entries)
@@ -88,7 +53,6 @@ module _ (s : List ℕ) (room : ℕ) where
     tiles = accepted-tiled s room good .0;
     owner = accepted-owner s room good;
     complete = accepted-complete s room good;
-    masks = masks-whole good;
   }
 
 -- ### A plane

@@ -1,20 +1,16 @@
 -- Demand 2: the table is the one that the specification gives, as document 01 reads it and document 02's requests change it; a plane is the
 -- bytes that its packets mean, and a plane that was packed reads back as itself.
 use mathlib.Core.Path.{_≡_}
-use mathlib.Core.Bool.{true}
-use mathlib.Core.List.{List, [], _∷_}
-use Prim.Native.Nat.{ℕ, suc, _+_, _≤_, _<_}
-use lib.ListN.{length, take, drop, getD}
+use mathlib.Core.List.{List}
+use Prim.Native.Nat.{ℕ, _+_, _≤_, _<_}
+use lib.ListN.{length, take, getD}
 use Rattle.laws.specs.Lists.{filter, part}
 use Rattle.laws.specs.Results.{Result}
 use Rattle.limits.specs.Limits.{planeLimit}
 use Rattle.entry.specs.declared.Entry.{Entry}
-use Rattle.entry.specs.Entry.{code}
-use Rattle.walk.specs.Parents.{held}
 use Rattle.walk.specs.Promised.{Tiles, OneOwner}
 use Rattle.headers.specs.FileHeader.{fileHeaderSize}
-use Rattle.memory.specs.declared.parent.Parent.the-variants.{AlphaBank}
-use Rattle.listing.specs.Right.{Right, Headed, Accepted, isLayer, isSelection, isAlphaBank, isAlpha, membersIn, layersIn, codesIn, alphaBankFrom}
+use Rattle.listing.specs.Right.{Right, Headed, Accepted, isLayer, layersIn}
 use Rattle.packet.specs.declared.told.Plane.{Plane}
 use Rattle.packet.specs.FullPackets.{StreamOf}
 use Rattle.packet.specs.Reading.{filled, planeRead}
@@ -28,31 +24,16 @@ pub record InOrder (es : List Entry) : Type 0 where
   pub file-order : (i j : ℕ) (d : Entry) → i < j → j < length es → getD es i d .block .place + getD es i d .block .owned ≤ getD es j d .block .place
   -- layers count 0, 1, 2 ..
   pub layer-numbers : (k : ℕ) (d : Entry) → k < layersIn es → getD (filter isLayer es) k d .layer ≡ k
-  -- and so do alpha channels, whatever layers stand before them
-  pub alpha-ranks : (k : ℕ) (d : Entry) → k < membersIn AlphaBank es → getD (filter isAlpha es) k d .layer ≡ k
 
 -- each entry is the one that the rules give for the bytes at its place, by the entries before it and by its own header
 abbrev pub EachRight : List ℕ → List Entry → Type 0
 EachRight s es = (k : ℕ) (d : Entry) → k < length es → Right s (take k es) (getD es k d) × Headed s (getD es k d)
-
--- the k-th entry holds these
-abbrev pub heldBy : List Entry → ℕ → Entry → List Entry
-heldBy es k d = held (getD es k d .block .level) (drop (suc k) es)
-
--- a selection holds its one channel, an alpha bank as many alpha channels as it announces, and each of these its one channel
-pub record MasksWhole (s : List ℕ) (es : List Entry) : Type 0 where
-  pub selection : (k : ℕ) (d : Entry) → k < length es → isSelection (getD es k d) ≡ true → codesIn (heldBy es k d) ≡ code 3 0 ∷ []
-  pub alpha-bank :
-      (k : ℕ) (d : Entry) → k < length es → isAlphaBank (getD es k d) ≡ true
-      → membersIn AlphaBank (heldBy es k d) ≡ alphaBankFrom s (getD es k d .block .place) .count
-  pub alpha : (k : ℕ) (d : Entry) → k < length es → isAlpha (getD es k d) ≡ true → codesIn (heldBy es k d) ≡ code 4 0 ∷ []
 
 -- of an accepted file: side by side from byte 36 to the end, each byte has one owner, and nothing is missing
 pub record WholeFile (s : List ℕ) (es : List Entry) : Type 0 where
   pub tiles : Tiles fileHeaderSize es (length s)
   pub owner : (k : ℕ) → fileHeaderSize ≤ k → k < length s → OneOwner k es
   pub complete : Accepted s es
-  pub masks : MasksWhole s es
 
 -- ### A plane
 
