@@ -1,5 +1,5 @@
-// A judge for each kind of block inside the bank, a layer and its channels, in document 01's order of tests. They are apart from the other
-// kinds for the prover alone: one crate of both takes twice as long to check.
+// A judge for a layer, and one for the channels of layers, selections and alpha channels, in document 01's order of tests. They are apart from
+// the other kinds for the prover alone: one crate of both takes twice as long to check.
 mod channel;
 mod layer;
 
