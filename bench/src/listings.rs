@@ -34,7 +34,7 @@ struct Listed {
 pub fn report(clock: &Clock) {
     layers(clock);
     println!(
-        "| Empty blocks | MiB | Blocks | Library, {0} | Peer, {0} | Library / peer \
+        "| Empty blocks | MiB | Blocks | Library, {0} | Peer, {0} | Peer / library \
          | Library, {1} a block | growth | Peer, {1} a block | growth |",
         clock.millions(),
         clock.ones()
@@ -47,7 +47,7 @@ pub fn report(clock: &Clock) {
 
 fn layers(clock: &Clock) {
     println!(
-        "| Listing | Entries | Library, {0} an entry | Peer, {0} an entry | Library / peer |",
+        "| Listing | Entries | Library, {0} an entry | Peer, {0} an entry | Peer / library |",
         clock.ones()
     );
     println!("|---|--:|--:|--:|--:|");

@@ -1,8 +1,9 @@
 //! Figures of the proved library beside its peers, in one process.
 //!
-//! `figures` prints planes, listings and views, `figures memory` the stack and the memory of the
-//! longest listings. `figures list SIDE FILE TIMES` lists and prints nothing, so that a tool can count
-//! its instructions. Every answer is checked; a wrong one stops the program.
+//! `figures` prints planes, listings and views, `figures planes` the first of them, `figures memory`
+//! the stack and the memory of the longest listings. `figures list SIDE FILE TIMES` lists and prints
+//! nothing, so that a tool can count its instructions. Every answer is checked; a wrong one stops the
+//! program.
 
 mod clock;
 mod copying;
@@ -10,6 +11,7 @@ mod files;
 mod listings;
 mod measure;
 mod memory;
+mod packing;
 mod pictures;
 mod planes;
 mod sides;
@@ -44,8 +46,9 @@ fn main() {
             #[cfg(target_arch = "x86_64")]
             views::report(&clock);
         }
+        ["planes"] => planes::report(&Clock::open()),
         ["memory"] => memory::report(),
         ["list", side, file, times] => listings::repeat(side, file, times),
-        _ => panic!("usage: figures [memory | list SIDE FILE TIMES]"),
+        _ => panic!("usage: figures [planes | memory | list SIDE FILE TIMES]"),
     }
 }

@@ -10,8 +10,9 @@ pub struct Costs {
 }
 
 impl Costs {
+    /// The library's speed, of the peer's: over 1 the library is faster.
     pub fn ratio(&self) -> f64 {
-        self.library / self.peer
+        self.peer / self.library
     }
 
     /// The costs of one of so many equal parts.

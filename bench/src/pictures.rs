@@ -8,12 +8,16 @@ pub struct Picture {
     pub plane: Vec<u8>,
 }
 
-/// From the fewest packets to the most.
+/// From the fewest packets to the most, or nearly so.
 pub fn all() -> Vec<Picture> {
     vec![
         picture("flat", |_, _| 0x40),
         picture("alternating", |x, _| (x % 2 * 255) as u8),
+        picture("pairs", |x, _| (x / 2 % 2 * 255) as u8),
+        noisy(),
         photographic(),
+        halftone(),
+        short_runs(),
         picture("three and one", |x, _| u8::from(x % 4 == 3)),
     ]
 }
@@ -26,16 +30,56 @@ fn picture(name: &'static str, mut pixel: impl FnMut(u32, u32) -> u8) -> Picture
     Picture { name, plane }
 }
 
-/// Slow slopes under the noise of a sensor: eight values beside each other, so that three equal ones
-/// are rare and never far.
-fn photographic() -> Picture {
+/// Numbers that follow no rule, the same ones in each run.
+fn random() -> impl FnMut() -> u64 {
     let mut state = 0x9E37_79B9_7F4A_7C15_u64;
-    picture("photographic", |x, y| {
+    move || {
         state ^= state << 13;
         state ^= state >> 7;
         state ^= state << 17;
-        let noise = (state >> 61) as u32;
+        state
+    }
+}
+
+fn noisy() -> Picture {
+    let mut random = random();
+    picture("noisy", |_, _| (random() >> 56) as u8)
+}
+
+/// Slow slopes under the noise of a sensor: eight values beside each other, so that three equal ones
+/// are rare and never far.
+fn photographic() -> Picture {
+    let mut random = random();
+    picture("photographic", |x, y| {
+        let noise = (random() >> 61) as u32;
         let slope = (x / 11 + y / 7) % 480;
         (slope.min(480 - slope) + noise) as u8
+    })
+}
+
+/// A screen of round dots, eight pixels apart, that grow from corner to corner.
+fn halftone() -> Picture {
+    let from_middle = |z: u32| {
+        let twice = (2 * (z % 8)).abs_diff(7);
+        twice * twice
+    };
+    picture("halftone", |x, y| {
+        let tone = (x + y) * 100 / (2 * SIDE);
+        u8::from(from_middle(x) + from_middle(y) <= tone) * 255
+    })
+}
+
+/// Runs of one to eight bytes.
+fn short_runs() -> Picture {
+    let mut random = random();
+    let (mut left, mut byte) = (0, 0);
+    picture("random short runs", |_, _| {
+        if left == 0 {
+            let next = random();
+            left = 1 + (next >> 61);
+            byte = (next >> 40) as u8;
+        }
+        left -= 1;
+        byte
     })
 }

@@ -4,6 +4,7 @@ use crate::clock::Clock;
 use crate::copying;
 use crate::files::{self, GREY_ENTRIES};
 use crate::measure::{counted, interleaved, Costs};
+use crate::packing;
 use crate::pictures::{self, Picture, SIDE};
 use crate::reference::psp as reference;
 use crate::sides::{Side, Stored};
@@ -13,8 +14,9 @@ const RUN_LENGTHS: u16 = 1;
 
 pub fn report(clock: &Clock) {
     copying::check();
+    packing::check();
     println!(
-        "| Plane | Work | Bytes stored | Library, {0} | Peer, {0} | Library / peer |",
+        "| Plane | Work | Bytes stored | Library, {0} | Peer, {0} | Peer / library |",
         clock.millions()
     );
     println!("|---|---|--:|--:|--:|--:|");
@@ -24,7 +26,20 @@ pub fn report(clock: &Clock) {
         row(name, "read raw", plane, &read(clock, RAW, plane, plane));
         let unpacking = read(clock, RUN_LENGTHS, &packed, plane);
         row(name, "read run lengths", &packed, &unpacking);
-        row(name, "pack", &packed, &pack(clock, plane, &packed));
+        let exact = packed.len();
+        row(
+            name,
+            "pack, room for its form",
+            &packed,
+            &pack(clock, plane, &packed, exact),
+        );
+        let most = plane.len() + (plane.len() + 126) / 127;
+        row(
+            name,
+            "pack, room for any form",
+            &packed,
+            &pack(clock, plane, &packed, most),
+        );
     }
     println!();
 }
@@ -64,16 +79,19 @@ fn channel_of(file: &[u8], compression: u16) -> Stored {
     }
 }
 
-fn pack(clock: &Clock, plane: &[u8], packed: &[u8]) -> Costs {
+/// Packs into so much room.
+fn pack(clock: &Clock, plane: &[u8], packed: &[u8], room: usize) -> Costs {
+    let mut left = packed.to_vec();
+    left.resize(room, 0);
     one(
         clock,
-        packed,
+        &left,
         (0, packed.len(), packed.len()),
         |side, dest| side.pack(plane, dest),
     )
 }
 
-/// The costs of one work that must give this answer and these bytes.
+/// The costs of one work that must give this answer and leave these bytes.
 fn one(
     clock: &Clock,
     bytes: &[u8],

@@ -2,6 +2,7 @@
 
 use crate::copying;
 use crate::library::numbers as library;
+use crate::packing;
 use crate::reference::psp as reference;
 
 #[derive(Clone, Copy, Debug)]
@@ -59,7 +60,7 @@ impl Side {
         }
     }
 
-    /// The peer is the independent implementation. The packed length stands for the place too.
+    /// The peer is the packer that carries its count. The packed length stands for the place too.
     pub fn pack(self, plane: &[u8], dest: &mut [u8]) -> Answer {
         match self {
             Side::Library => {
@@ -67,8 +68,8 @@ impl Side {
                 (packed.number, packed.length, packed.length)
             }
             Side::Peer => {
-                let (number, length) = reference::planes::pack(plane, dest);
-                (number, length as usize, length as usize)
+                let (number, length) = packing::pack(plane, dest);
+                (number, length, length)
             }
         }
     }

@@ -21,7 +21,8 @@ use Rattle.laws.proofs.Tests.{never}
 use Rattle.laws.proofs.Part.{part-length}
 use Rattle.laws.proofs.Over.{over-one, over-cons}
 use Rattle.laws.proofs.Written.{Written, written-first, written-more, written-front, written-length, written-all}
-use Rattle.packer.proofs.Until.{head-at, until-go, Count, count}
+use Rattle.packer.proofs.Until.{until-go, Count, count}
+use Rattle.packer.proofs.Places.{head-at}
 
 -- ---- the packet that is chosen
 
@@ -249,12 +250,14 @@ storing-next p before at done dest q count size after h s on ec es ea =
 
 pub storing-last :
     (p before : List ℕ) (at done : ℕ) (dest : List ℕ) → Storing p before at done dest → length p ≤ at
-    → dest ≡ packed p ++ drop (length (packed p)) before
+    → (done ≡ length (packed p)) × (dest ≡ packed p ++ drop (length (packed p)) before)
 storing-last p before at done dest s h =
     let all : packed p ≡ take done dest = s .form ∙ ap (λ (r : List ℕ). take done dest ++ r) (packed-end p at h) ∙ append-nil (take done dest) in
-    let len : length (packed p) ≡ done = ap length all ∙ written-length before done dest (s .written) in
-    written-all before done dest (s .written)
-    ∙ sym (ap (λ (n : ℕ). packed p ++ drop n before) len ∙ ap (λ (r : List ℕ). r ++ drop done before) all)
+    let len : length (packed p) ≡ done = ap length all ∙ written-length before done dest (s .written) in (
+      sym len,
+      written-all before done dest (s .written)
+          ∙ sym (ap (λ (n : ℕ). packed p ++ drop n before) len ∙ ap (λ (r : List ℕ). r ++ drop done before) all),
+    )
 
 -- ---- the answers
 
@@ -266,13 +269,13 @@ pub pack-over-limit : (plane dest : List ℕ) → planeLimit < length plane → 
 unfolding packs
 pack-over-limit plane dest h = pick-yes _ _ _ (lt-ltb planeLimit (length plane) h)
 
-pub pack-short : (plane dest : List ℕ) (n : ℕ) → length plane ≤ planeLimit → n ≡ length (packed plane) → length dest < n → packs plane dest ≡ result NoRoom dest
-pack-short plane dest n h e short = packed-is plane dest h ∙ pick-yes _ _ _ (lt-ltb (length dest) (length (packed plane)) (omega arith))
+pub pack-short : (plane dest : List ℕ) → length plane ≤ planeLimit → length dest < length (packed plane) → packs plane dest ≡ result NoRoom dest
+pack-short plane dest h short = packed-is plane dest h ∙ pick-yes _ _ _ (lt-ltb (length dest) (length (packed plane)) short)
 
 pub pack-whole :
-    (plane dest : List ℕ) (n : ℕ) (after : List ℕ) → length plane ≤ planeLimit → n ≡ length (packed plane) → n ≤ length dest
+    (plane dest : List ℕ) (n : ℕ) (after : List ℕ) → length plane ≤ planeLimit → length (packed plane) ≤ length dest → n ≡ length (packed plane)
     → after ≡ packed plane ++ drop (length (packed plane)) dest → result (Whole n) after ≡ packs plane dest
-pack-whole plane dest n after h e room f =
+pack-whole plane dest n after h room e f =
     _∙_ {b = result (Whole (length (packed plane))) (packed plane ++ drop (length (packed plane)) dest)}
     (λ i. result (Whole (e i)) (f i))
-    (sym (packed-is plane dest h ∙ pick-no _ _ _ (le-ltb (length dest) (length (packed plane)) (omega arith))))
+    (sym (packed-is plane dest h ∙ pick-no _ _ _ (le-ltb (length dest) (length (packed plane)) room)))

@@ -1,5 +1,6 @@
-// The packer: it measures the packed form, and then stores it.
+// The packer: it sees that the packed form has room, and then stores it.
 use crate::PackAnswer;
+use crate::next::ahead_of;
 use crate::next::next_at;
 use packet::Packet;
 use packet::copy_over;
@@ -7,6 +8,7 @@ use packet::wide;
 ghost use mathlib.Core.Path.{_≡_};
 ghost use mathlib.Core.List.{_++_};
 ghost use Prim.Native.Nat.{_+_, _≤_};
+ghost use lib.Dec.{leb};
 ghost use lib.ListN.{length, drop};
 ghost use Rattle.laws.specs.Lists.{over};
 ghost use Rattle.limits.specs.Limits.{planeLimit};
@@ -20,10 +22,13 @@ fn measure(plane: &[u8]) -> usize
 {
     let mut at = 0;
     let mut total = 0;
+    let mut ahead = ahead_of(plane, 0);
     while at < plane.len() {
-        let p = next_at(plane, at);
+        let next = next_at(plane, at, ahead);
+        let p = next.packet;
         total += p.size();
         at += p.count();
+        ahead = next.ahead;
     }
     total
 }
@@ -45,19 +50,36 @@ fn store(plane: &[u8], at: usize, p: Packet, dest: &mut [u8], done: usize)
     }
 }
 
-// The packed form goes into the front of dest.
-fn store_all(plane: &[u8], dest: &mut [u8])
+// The packed form goes into the front of dest, and its length is returned.
+fn store_all(plane: &[u8], dest: &mut [u8]) -> usize
     requires { ⌜ length (packed (now plane)) ≤ length (now dest) ⌝ }
+    ensures { λ r. ⌜ r ≡ length (packed (now (plane .entry))) ⌝ }
     ensures { λ _. ⌜ now (dest .exit) ≡ packed (now (plane .entry)) ++ drop (length (packed (now (plane .entry)))) (now (dest .entry)) ⌝ }
 {
     let mut at = 0;
     let mut done = 0;
+    let mut ahead = ahead_of(plane, 0);
     while at < plane.len() {
-        let p = next_at(plane, at);
+        let next = next_at(plane, at, ahead);
+        let p = next.packet;
         store(plane, at, p, dest, done);
         at += p.count();
         done += p.size();
+        ahead = next.ahead;
     }
+    done
+}
+
+// Whether the packed form has room. Only where the longest form that so many bytes can have would not fit is it measured.
+fn fits(plane: &[u8], room: usize) -> bool
+    requires { ⌜ length (now plane) ≤ planeLimit ⌝ }
+    ensures { λ r. ⌜ r ≡ leb (length (packed (now (plane .entry)))) room ⌝ }
+{
+    let n = plane.len();
+    if n + (n + 126) / 127 <= room {
+        return true;
+    }
+    measure(plane) <= room
 }
 
 // The packer. The packed form of the plane goes into the front of dest, which keeps the rest. 31: plane over the limit. 30: dest is
@@ -68,10 +90,9 @@ pub fn pack(plane: &[u8], dest: &mut [u8]) -> PackAnswer
     if limits::PLANE < plane.len() {
         return PackAnswer::OverLimit;
     }
-    let length = measure(plane);
-    if dest.len() < length {
+    if !fits(plane, dest.len()) {
         return PackAnswer::NoRoom;
     }
-    store_all(plane, dest);
+    let length = store_all(plane, dest);
     PackAnswer::Whole { length }
 }

@@ -21,7 +21,7 @@ fn plane_of_runs(random: &mut Random) -> Vec<u8> {
         let byte = random.below(colours) as u8;
         if random.one_in(3) {
             // No run at all, and no pair either.
-            plane.extend((0..limit).map(|at| (at % 251) as u8));
+            plane.extend(unequal(limit));
         } else {
             let run = random.pick(&[1, 1, 1, 2, 2, 3, short, limit, limit]);
             plane.extend(vec![byte; run]);
@@ -53,7 +53,7 @@ pub fn all(cases: &mut Vec<Case>) {
     for &first in &RUNS {
         planes.push(vec![7; first]);
         // Nothing equal: literals of that length, whole and before a run.
-        let literals: Vec<u8> = (0..first).map(|at| (at % 251) as u8).collect();
+        let literals = unequal(first);
         planes.push(literals.clone());
         // Pairs stay literals.
         planes.push((0..first).map(|at| (at / 2) as u8).collect());
@@ -71,14 +71,49 @@ pub fn all(cases: &mut Vec<Case>) {
     }
     for plane in planes {
         let length = packed_form(&plane).len() as u32;
-        for destination in [length.saturating_sub(1), length, length + 3]
-            .iter()
-            .copied()
-        {
-            cases.push(Case::Pack {
-                destination,
-                plane: plane.clone(),
-            });
-        }
+        push(
+            cases,
+            &plane,
+            [length.saturating_sub(1), length, length + 3],
+        );
     }
+    starts(cases);
+}
+
+/// Two to four equal bytes at every place of a packet's beginning, at the end and one before it, and
+/// equal bytes before another; destinations one short, exact, and about the longest form that so many
+/// bytes can have.
+fn starts(cases: &mut Vec<Case>) {
+    let mut planes = Vec::new();
+    for before in 0..=44 {
+        for equal in 2..=4 {
+            let mut plane = unequal(before);
+            plane.extend(vec![255; equal]);
+            planes.push(plane.clone());
+            plane.push(1);
+            planes.push(plane);
+        }
+        let mut plane = vec![7; before];
+        plane.push(8);
+        planes.push(plane);
+    }
+    for plane in planes {
+        let length = packed_form(&plane).len() as u32;
+        let most = (plane.len() + (plane.len() + 126) / 127) as u32;
+        push(cases, &plane, [length - 1, length, most - 1, most]);
+    }
+}
+
+fn push<const COUNT: usize>(cases: &mut Vec<Case>, plane: &[u8], destinations: [u32; COUNT]) {
+    for destination in destinations {
+        cases.push(Case::Pack {
+            destination,
+            plane: plane.to_vec(),
+        });
+    }
+}
+
+/// So many bytes of which no two beside each other are equal.
+fn unequal(length: usize) -> Vec<u8> {
+    (0..length).map(|at| (at % 251) as u8).collect()
 }
