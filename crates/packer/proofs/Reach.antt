@@ -22,7 +22,7 @@ module _ (stop : List ℕ → Bool) (p : List ℕ) where
   pub clear-join : (at mid to : ℕ) → Clear at mid → Clear mid to → Clear at to
   clear-join at mid to c d k above below = ⊎-elim (λ h. c k above h) (λ h. d k h below) (less-or-not k mid)
 
-  pub clear-block : (at n : ℕ) → ((k : ℕ) → k < n → stop (drop (at + k) p) ≡ false) → Clear at (at + n)
+  clear-block : (at n : ℕ) → ((k : ℕ) → k < n → stop (drop (at + k) p) ≡ false) → Clear at (at + n)
   clear-block at n c k above below =
       let there : at + (k - at) ≡ k = omega arith in
       ap (λ (i : ℕ). stop (drop i p)) (sym there) ∙ c (k - at) (omega arith)

@@ -1,5 +1,5 @@
 // Where equal bytes end.
-use crate::least::least;
+use crate::least::near;
 ghost use mathlib.Core.Path.{_≡_};
 ghost use mathlib.Core.Bool.{true, false};
 ghost use Prim.Native.Nat.{ℕ, _+_, _-_, _<_, _≤_};
@@ -55,7 +55,7 @@ pub(crate) fn equal_end(plane: &[u8], byte: u8, at: usize) -> usize
     requires { ⌜ at ≤ length (now plane) ⌝ }
     ensures { λ r. ⌜ r ≡ at + until (length (now (plane .entry))) (otherThan byte) (drop at (now (plane .entry))) ⌝ }
 {
-    let near = at + least(8, plane.len() - at);
+    let near = near(plane, at);
     let first = other_byte(plane, byte, at, near);
     if first < near {
         return first;

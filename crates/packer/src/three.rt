@@ -1,5 +1,5 @@
 // Where three equal bytes start.
-use crate::least::least;
+use crate::least::near;
 ghost use mathlib.Core.Path.{_≡_};
 ghost use mathlib.Core.Bool.{true, false};
 ghost use Prim.Native.Nat.{ℕ, _+_, _<_, _≤_};
@@ -74,7 +74,7 @@ pub(crate) fn three_start(plane: &[u8], at: usize) -> usize
     requires { ⌜ at ≤ length (now plane) ⌝ }
     ensures { λ r. ⌜ r ≡ at + until (length (now (plane .entry))) three (drop at (now (plane .entry))) ⌝ }
 {
-    let near = at + least(8, plane.len() - at);
+    let near = near(plane, at);
     let first = three_before(plane, at, near);
     if 3 <= near - first {
         return first;

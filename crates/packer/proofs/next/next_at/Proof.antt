@@ -11,9 +11,10 @@ returns c =
     let tested = c .before .before in
     let start = tested .before .before .before in
     let a = start .args in
-    let p = a .plane .now in
-    (literals-next p (a .at) _ _ _ (start .pre .0) (start .pre .1) (tested .if1 .taken) (c .least .ensures),
-    literals-ahead p (a .at) _ _ _ (start .pre .0) (start .pre .1) (tested .if1 .taken) (c .least .ensures))
+    let p = a .plane .now in (
+      literals-next p (a .at) _ _ _ (start .pre .0) (start .pre .1) (tested .if1 .taken) (c .least .ensures),
+      literals-ahead p (a .at) _ _ _ (start .pre .0) (start .pre .1) (tested .if1 .taken) (c .least .ensures),
+    )
 
 ahead-of-requires : tie.Need-ahead-of-requires
 ahead-of-requires c κs =
@@ -30,9 +31,10 @@ returns-2 c =
     let tested = counted .before in
     let start = tested .before .before .before in
     let a = start .args in
-    let p = a .plane .now in
-    (run-next p (a .at) _ _ _ (start .pre .0) (start .pre .1) (tested .if1 .left) (counted .least2 .ensures),
-    run-ahead p (a .at) _ _ _ (start .pre .0) (start .pre .1) (tested .if1 .left) (counted .least2 .ensures) _ _ _ refl (c .before .if2 .taken) (c .ahead-of .ensures))
+    let p = a .plane .now in (
+      run-next p (a .at) _ _ _ (start .pre .0) (start .pre .1) (tested .if1 .left) (counted .least2 .ensures),
+      run-ahead p (a .at) _ _ _ (start .pre .0) (start .pre .1) (tested .if1 .left) (counted .least2 .ensures) _ _ _ refl (c .before .if2 .taken) (c .ahead-of .ensures),
+    )
 
 returns-3 : tie.Need-returns-3
 returns-3 c =
@@ -40,9 +42,10 @@ returns-3 c =
     let tested = counted .before in
     let start = tested .before .before .before in
     let a = start .args in
-    let p = a .plane .now in
-    (run-next p (a .at) _ _ _ (start .pre .0) (start .pre .1) (tested .if1 .left) (counted .least2 .ensures),
-    run-again p (a .at) _ _ _ (start .pre .0) (start .pre .1) (tested .if1 .left) (counted .least2 .ensures) _ refl (c .if2 .left))
+    let p = a .plane .now in (
+      run-next p (a .at) _ _ _ (start .pre .0) (start .pre .1) (tested .if1 .left) (counted .least2 .ensures),
+      run-again p (a .at) _ _ _ (start .pre .0) (start .pre .1) (tested .if1 .left) (counted .least2 .ensures) _ refl (c .if2 .left),
+    )
 
 pub next-at-spec : {M : Type 1} → statement M
 next-at-spec =
