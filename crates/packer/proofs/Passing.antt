@@ -12,7 +12,7 @@ use lib.ListN.{length, drop, getD}
 use Rattle.laws.proofs.Tests.{both, neither, less-or-not}
 use Rattle.packer.specs.Packing.{three, otherThan}
 use Rattle.packer.proofs.Places.{other-no, three-short, three-same, three-gap}
-use Rattle.packer.proofs.Reach.{Clear, clear-none, clear-one, clear-join, Whole, whole}
+use Rattle.packer.proofs.Reach.{Clear, clear-none, clear-one, clear-join, Whole, whole, whole-before}
 
 module _ (p : List ℕ) (at i : ℕ) where
   -- a byte more of a block that is all this one
@@ -102,6 +102,15 @@ module _ (p : List ℕ) (at end : ℕ) where
   pub passing-end : (byte same to : ℕ) → Passing p at end byte same to → end ≤ to → Found p at end (to - same)
   passing-end byte same to s h = (omega (arith, s .above), omega (arith, s .below), s .plain, λ long. absurd (omega (arith, s .few, s .above)))
 
+-- ---- the whole way
+
+module _ (p : List ℕ) (at : ℕ) where
+  few-left : length p - at < 3 → Clear three p at (length p)
+  few-left few k above below = three-short p k (omega arith)
+
+  pub whole-few : at ≤ length p → length p - at < 3 → Whole three p at (length p)
+  whole-few inside few = whole three p at (length p) inside (omega arith) (few-left few) (inl refl)
+
 -- what was found is the whole way
 module _ (p : List ℕ) (at end r : ℕ) (f : Found p at end r) where
   pub found-here : end ≤ length p → r + 3 ≤ end → Whole three p at r
@@ -109,5 +118,4 @@ module _ (p : List ℕ) (at end r : ℕ) (f : Found p at end r) where
 
   pub found-none : end ≡ length p → end - r < 3 → Whole three p at (length p)
   found-none e few =
-      whole three p at (length p) (omega (arith, f .0, f .1)) (omega arith)
-      (clear-join three p at r (length p) (f .2) (λ k above below. three-short p k (omega arith))) (inl refl)
+      whole-before three p r (length p) (whole-few p r (omega (arith, f .1)) (omega arith)) at (f .0) (f .2)

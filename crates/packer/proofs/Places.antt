@@ -75,16 +75,17 @@ module _ (p : List ℕ) (at : ℕ) where
   three-same long one two =
       three-here (omega arith) ∙ pick-yes _ _ _ (eq-eqb (getD p at 0) (getD p (at + 1) 0) (sym one)) ∙ eq-eqb (getD p (at + 1) 0) (getD p (at + 2) 0) (one ∙ sym two)
 
+  -- the two tests of it, one behind the other and joined
+  pub three-second : at + 3 ≤ length p → getD p at 0 ≡ getD p (at + 1) 0 → eqb (getD p at 0) (getD p (at + 2) 0) ≡ three (drop at p)
+  three-second long same =
+      ap (λ (x : ℕ). eqb x (getD p (at + 2) 0)) same ∙ sym (three-here (omega arith) ∙ pick-yes _ _ _ (eq-eqb (getD p at 0) (getD p (at + 1) 0) same))
+
   pub three-tested : at + 3 ≤ length p → (eqb (getD p at 0) (getD p (at + 1) 0) && eqb (getD p at 0) (getD p (at + 2) 0)) ≡ three (drop at p)
   three-tested long =
+      let second : Bool → Bool = λ b. b && eqb (getD p at 0) (getD p (at + 2) 0) in
       yes-or-no (eqb (getD p at 0) (getD p (at + 1) 0))
-      (λ one.
-      let same : getD p at 0 ≡ getD p (at + 1) 0 = eqb-true (getD p at 0) (getD p (at + 1) 0) one in
-      ap (λ (b : Bool). b && eqb (getD p at 0) (getD p (at + 2) 0)) one
-      ∙ ap (λ (x : ℕ). eqb x (getD p (at + 2) 0)) same
-      ∙ sym (three-here (omega arith) ∙ pick-yes _ _ _ one))
-      (λ none.
-      ap (λ (b : Bool). b && eqb (getD p at 0) (getD p (at + 2) 0)) none ∙ sym (three-here (omega arith) ∙ pick-no _ _ _ none))
+      (λ one. ap second one ∙ three-second long (eqb-true (getD p at 0) (getD p (at + 1) 0) one))
+      (λ none. ap second none ∙ sym (three-here (omega arith) ∙ pick-no _ _ _ none))
 
   -- one of the two bytes behind differs
   pub three-gap : (e : ℕ) → at < e → e ≤ at + 2 → (getD p e 0 ≡ getD p at 0 → ⊥) → three (drop at p) ≡ false

@@ -153,3 +153,14 @@ module _ (stop : List ℕ → Bool) (p : List ℕ) where
         } in
         let same = reached 127 at (at + n) up-to in
         omega arith
+
+  -- the first place decides, or the reach goes on behind it
+  pub reached-here : (at : ℕ) → at ≤ length p → (at ≡ length p) ⊎ (stop (drop at p) ≡ true) → at ≡ at + until (length p) stop (drop at p)
+  reached-here at inside ended = reached (length p) at at (whole at at (omega arith) inside (clear-none at) ended)
+
+  pub reached-beyond :
+      (at to : ℕ) → at < length p → stop (drop at p) ≡ false → to ≡ at + 1 + until (length p) stop (drop (at + 1) p)
+      → to ≡ at + until (length p) stop (drop at p)
+  reached-beyond at to inside f e =
+      let beyond = subst (Whole (at + 1)) (sym e) (reach (length p) (at + 1) (omega arith)) in
+      reached (length p) at to (whole-before (at + 1) to beyond at (omega arith) (clear-one at at (at + 1) (omega arith) (clear-none at) f))

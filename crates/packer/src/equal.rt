@@ -51,7 +51,7 @@ fn equal_blocks(plane: &[u8], byte: u8, at: usize) -> usize
 }
 
 // The first place from `at` on where another byte stands, or the end of the plane. Few bytes are looked at one by one, and many by blocks.
-pub(crate) fn equal_end(plane: &[u8], byte: u8, at: usize) -> usize
+fn equal_beyond(plane: &[u8], byte: u8, at: usize) -> usize
     requires { ⌜ at ≤ length (now plane) ⌝ }
     ensures { λ r. ⌜ r ≡ at + until (length (now (plane .entry))) (otherThan byte) (drop at (now (plane .entry))) ⌝ }
 {
@@ -62,4 +62,18 @@ pub(crate) fn equal_end(plane: &[u8], byte: u8, at: usize) -> usize
     }
     let far = equal_blocks(plane, byte, near);
     other_byte(plane, byte, far, plane.len())
+}
+
+// The same. A run of three has another byte at once.
+pub(crate) fn equal_end(plane: &[u8], byte: u8, at: usize) -> usize
+    requires { ⌜ at ≤ length (now plane) ⌝ }
+    ensures { λ r. ⌜ r ≡ at + until (length (now (plane .entry))) (otherThan byte) (drop at (now (plane .entry))) ⌝ }
+{
+    if at == plane.len() {
+        return at;
+    }
+    if plane[at] != byte {
+        return at;
+    }
+    equal_beyond(plane, byte, at + 1)
 }

@@ -31,15 +31,26 @@ fn three_before(plane: &[u8], at: usize, end: usize) -> usize
     to - same
 }
 
-// Whether the next three bytes are equal. Neither test is made again by the next place, so that many places are tested side by side.
+// Whether the next three bytes are equal.
 fn three_at(plane: &[u8], at: usize) -> bool
+    requires { ⌜ at + 3 ≤ length (now plane) ⌝ }
+    ensures { λ r. ⌜ r ≡ three (drop at (now (plane .entry))) ⌝ }
+{
+    if plane[at] != plane[at + 1] {
+        return false;
+    }
+    plane[at] == plane[at + 2]
+}
+
+// The same, without a branch; and neither test is made again by the next place, so that many places are tested side by side.
+fn three_both(plane: &[u8], at: usize) -> bool
     requires { ⌜ at + 3 ≤ length (now plane) ⌝ }
     ensures { λ r. ⌜ r ≡ three (drop at (now (plane .entry))) ⌝ }
 {
     (plane[at] == plane[at + 1]) & (plane[at] == plane[at + 2])
 }
 
-// If it says no, three equal bytes start at none of the next 16 places. No test waits for another, so that they are made side by side.
+// If it says no, three equal bytes start at none of the next 16 places. No test waits for another.
 fn any_three(plane: &[u8], at: usize) -> bool
     requires { ⌜ at + 18 ≤ length (now plane) ⌝ }
     ensures { λ r. ⌜ (r ≡ false → (k : ℕ) → at ≤ k → k < at + 16 → three (drop k (now (plane .entry))) ≡ false) ⌝ }
@@ -47,7 +58,7 @@ fn any_three(plane: &[u8], at: usize) -> bool
     let mut any = false;
     let mut i = 0;
     while i < 16 {
-        any = any | three_at(plane, at + i);
+        any = any | three_both(plane, at + i);
         i += 1;
     }
     any
@@ -70,7 +81,7 @@ fn plain_blocks(plane: &[u8], at: usize) -> usize
 
 // The first place from `at` on where three equal bytes start, or the end of the plane. Few bytes are looked at one by one, and many by
 // blocks.
-pub(crate) fn three_start(plane: &[u8], at: usize) -> usize
+fn three_beyond(plane: &[u8], at: usize) -> usize
     requires { ⌜ at ≤ length (now plane) ⌝ }
     ensures { λ r. ⌜ r ≡ at + until (length (now (plane .entry))) three (drop at (now (plane .entry))) ⌝ }
 {
@@ -85,4 +96,18 @@ pub(crate) fn three_start(plane: &[u8], at: usize) -> usize
         return last;
     }
     plane.len()
+}
+
+// The same. Where a run follows a run, they start at once.
+pub(crate) fn three_start(plane: &[u8], at: usize) -> usize
+    requires { ⌜ at ≤ length (now plane) ⌝ }
+    ensures { λ r. ⌜ r ≡ at + until (length (now (plane .entry))) three (drop at (now (plane .entry))) ⌝ }
+{
+    if plane.len() - at < 3 {
+        return plane.len();
+    }
+    if three_at(plane, at) {
+        return at;
+    }
+    three_beyond(plane, at + 1)
 }

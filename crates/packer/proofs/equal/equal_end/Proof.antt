@@ -1,43 +1,37 @@
--- `packer::equal::equal_end` meets its contract: near, or far behind whole blocks.
+-- `packer::equal::equal_end` meets its contract: at once, or beyond the first byte.
+use mathlib.Core.Logic.{inl, inr}
 use native.Mathlib.Omega.{arith}
 use borrow.Author.Needs.{needs}
 use Rattle.packer.specs.Packing.{otherThan}
-use Rattle.packer.proofs.Reach.{reached, whole-near, whole-far, whole-before, clear-near, clear-join}
+use Rattle.packer.proofs.Places.{other-yes, other-no}
+use Rattle.packer.proofs.Reach.{reached-here, reached-beyond}
 use Rattle.packer.proofs.equal.equal_end.Statement.{statement}
 use Rattle.packer.proofs.equal.equal_end.Tie as tie
 
 returns : tie.Need-returns
 returns c =
-    let found = c .before in
-    let near = found .before .near in
-    let a = found .before .before .before .args in
-    let other = otherThan (a .byte) in
-    reached other (a .plane .now) _ (a .at) _
-    (whole-near other (a .plane .now) (a .at) _ _ (near .ensures .0) (near .ensures .1) (found .other-byte .ensures) (c .if1 .taken))
-
-other-byte-requires-2 : tie.Need-other-byte-requires-2
-other-byte-requires-2 c κs = (c .equal-blocks .ensures .1, omega arith)
+    let start = c .before .before in
+    reached-here (otherThan (start .args .byte)) (start .args .plane .now) _ (start .pre) (inl (c .if1 .taken))
 
 returns-2 : tie.Need-returns-2
 returns-2 c =
-    let blocks = c .before .equal-blocks in
-    let found = c .before .before .before in
-    let near = found .before .near in
-    let a = found .before .before .before .args in
-    let p = a .plane .now in
-    let other = otherThan (a .byte) in
-    let first = clear-near other p (a .at) _ _ (near .ensures .0) (near .ensures .1) (found .other-byte .ensures) (c .before .before .if1 .left) in
-    let last = whole-far other p (blocks .result) _ (blocks .ensures .1) (c .other-byte2 .ensures) in
-    reached other p _ (a .at) _
-    (whole-before other p (blocks .result) _ last (a .at) (omega (arith, near .ensures .0, blocks .ensures .0)) (clear-join other p (a .at) (near .result) (blocks .result) first (blocks .ensures .2)))
+    let start = c .before .before .before .before in
+    reached-here (otherThan (start .args .byte)) (start .args .plane .now) _ (start .pre) (inr (other-yes _ (start .args .plane .now) (start .args .at) (c .if2 .taken)))
+
+returns-3 : tie.Need-returns-3
+returns-3 c =
+    let tested = c .before in
+    let start = tested .before .before .before .before in
+    reached-beyond (otherThan (start .args .byte)) (start .args .plane .now) _ _ (omega (arith, start .pre, tested .before .before .if1 .left))
+    (other-no _ (start .args .plane .now) (start .args .at) (tested .if2 .left)) (c .equal-beyond .ensures)
 
 pub equal-end-spec : {M : Type 1} → statement M
 equal-end-spec =
     tie.close
     (tie.spec
-    (λ c κs. search needs)
-    (λ c κs. c .near .ensures)
     returns
-    (λ c κs. c .before .before .near .ensures .1)
-    other-byte-requires-2
-    returns-2)
+    (λ c. search needs)
+    returns-2
+    (λ c. search needs)
+    (λ c κs. search needs)
+    returns-3)

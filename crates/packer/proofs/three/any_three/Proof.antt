@@ -18,17 +18,17 @@ abbrev μ-loop : tie.MeasureT-loop
 loop-holds : tie.Need-loop-holds Inv-loop μ-loop
 loop-holds c = (omega arith, λ _ k above below. absurd (omega arith))
 
-add-three-at : tie.Need-add-three-at Inv-loop μ-loop
-add-three-at c = omega (arith, c .before .before .before .pre, c .before .loop .inv .0)
+add-three-both : tie.Need-add-three-both Inv-loop μ-loop
+add-three-both c = omega (arith, c .before .before .before .pre, c .before .loop .inv .0)
 
-three-at-requires : tie.Need-three-at-requires Inv-loop μ-loop
-three-at-requires c κs = omega (arith, c .before .before .before .pre, c .loop-test .taken)
+three-both-requires : tie.Need-three-both-requires Inv-loop μ-loop
+three-both-requires c κs = omega (arith, c .before .before .before .pre, c .loop-test .taken)
 
 loop-again : tie.Need-loop-again Inv-loop μ-loop
 loop-again c =
     let l = c .before .before in
     let a = l .before .before .args in
-    (omega (arith, c .before .loop-test .taken), plain-more (a .plane .now) (a .at) (l .loop .i) (l .loop .any) _ (l .loop .inv .1) (c .three-at .ensures))
+    (omega (arith, c .before .loop-test .taken), plain-more (a .plane .now) (a .at) (l .loop .i) (l .loop .any) _ (l .loop .inv .1) (c .three-both .ensures))
 
 returns : tie.Need-returns Inv-loop μ-loop
 returns c plain k above below = c .before .loop .inv .1 plain k above (omega (arith, c .loop-test .left))
@@ -40,8 +40,8 @@ any-three-spec =
     Inv-loop
     μ-loop
     loop-holds
-    add-three-at
-    three-at-requires
+    add-three-both
+    three-both-requires
     (λ c. omega arith)
     (λ c. omega arith)
     loop-again
