@@ -148,7 +148,7 @@ typedef struct psp_packed {
 } psp_packed;
 
 /* Packs a plane into dest as run-length packets, at most length + (length + 126) / 127 bytes (0, 30, 31). With that much room it does not
- * measure first, and is about twice as fast. What follows the packed form is untouched, and all of dest when refused. */
+ * measure first, and is nearly twice as fast. What follows the packed form is untouched, and all of dest when refused. */
 psp_packed psp_pack(const uint8_t *plane, size_t length, uint8_t *dest, size_t room);
 
 /* ---- Rectangles and canvas ---- */

@@ -81,7 +81,7 @@ pub fn unpack(stream: &[u8], dest: &mut [u8], plane: usize) -> Result<usize, Ref
 
 /// Packs a plane into `dest` as run-length packets, and gives the length of the packed form: at most
 /// `plane.len() + (plane.len() + 126) / 127`. With that much room it does not measure first, and is
-/// about twice as fast.
+/// nearly twice as fast.
 pub fn pack(plane: &[u8], dest: &mut [u8]) -> Result<usize, Refusal> {
     let packed = numbers::pack(plane, dest);
     good(packed.number, packed.length)
