@@ -26,20 +26,11 @@ pub fn report(clock: &Clock) {
         row(name, "read raw", plane, &read(clock, RAW, plane, plane));
         let unpacking = read(clock, RUN_LENGTHS, &packed, plane);
         row(name, "read run lengths", &packed, &unpacking);
-        let exact = packed.len();
-        row(
-            name,
-            "pack, room for its form",
-            &packed,
-            &pack(clock, plane, &packed, exact),
-        );
         let most = plane.len() + (plane.len() + 126) / 127;
-        row(
-            name,
-            "pack, room for any form",
-            &packed,
-            &pack(clock, plane, &packed, most),
-        );
+        for (form, room) in [("its", packed.len()), ("any", most)] {
+            let work = format!("pack, room for {form} form");
+            row(name, &work, &packed, &pack(clock, plane, &packed, room));
+        }
     }
     println!();
 }
