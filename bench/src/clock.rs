@@ -17,7 +17,7 @@ impl Clock {
         }
     }
 
-    /// Nanoseconds or instructions of this process so far.
+    /// Nanoseconds of this thread, or instructions of this process, so far.
     pub fn now(&self) -> u64 {
         match self {
             Clock::Time => processor_time(),
@@ -34,7 +34,7 @@ impl Clock {
     /// Times differ from round to round and want a median; counts do not.
     pub fn rounds(&self) -> usize {
         match self {
-            Clock::Time => 11,
+            Clock::Time => 21,
             Clock::Instructions(_) => 1,
         }
     }
@@ -44,6 +44,14 @@ impl Clock {
         match self {
             Clock::Time => "ms",
             Clock::Instructions(_) => "million instructions",
+        }
+    }
+
+    /// The unit of a thousand.
+    pub fn thousands(&self) -> &'static str {
+        match self {
+            Clock::Time => "µs",
+            Clock::Instructions(_) => "thousand instructions",
         }
     }
 
@@ -67,15 +75,15 @@ extern "C" {
     fn clock_gettime(clock: i32, time: *mut Timespec) -> i32;
 }
 
-/// The time that this process has had a processor, so that waiting for one does not count.
+/// The time that this thread has had a processor, so that waiting for one does not count.
 fn processor_time() -> u64 {
-    const CLOCK_PROCESS_CPUTIME_ID: i32 = 2;
+    const CLOCK_THREAD_CPUTIME_ID: i32 = 3;
     let mut time = Timespec {
         seconds: 0,
         nanoseconds: 0,
     };
     // SAFETY: the struct is the system's, and lent for the call.
-    let status = unsafe { clock_gettime(CLOCK_PROCESS_CPUTIME_ID, &mut time) };
+    let status = unsafe { clock_gettime(CLOCK_THREAD_CPUTIME_ID, &mut time) };
     assert_eq!(status, 0);
     time.seconds as u64 * 1_000_000_000 + time.nanoseconds as u64
 }

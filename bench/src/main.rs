@@ -1,22 +1,25 @@
 //! Figures of the proved library beside its peers, in one process.
 //!
-//! `figures` prints planes, listings and views, `figures planes` the first of them, `figures memory`
-//! the stack and the memory of the longest listings. `figures list SIDE FILE TIMES` lists and prints
-//! nothing, so that a tool can count its instructions. Every answer is checked; a wrong one stops the
-//! program.
+//! `figures` prints planes, listings and views, `figures planes` the first of them, `figures reading`
+//! the reading of planes alone, `figures memory` the stack and the memory of the longest listings.
+//! `figures list SIDE FILE TIMES` and `figures read READER PLANE TIMES` list and read and print
+//! nothing, so that a tool can count their instructions. Every answer is checked; a wrong one stops
+//! the program.
 
 mod clock;
-mod copying;
 mod files;
 mod listings;
 mod measure;
 mod memory;
+mod packed;
 mod packing;
 mod pictures;
-mod planes;
+mod reading;
 mod sides;
 
-// The library's boundary on Arm is wrapped for listings and planes only.
+// The library's boundary on Arm is wrapped for listings, reading and packing only.
+#[cfg(target_arch = "x86_64")]
+mod placing;
 #[cfg(target_arch = "x86_64")]
 mod views;
 
@@ -41,14 +44,25 @@ fn main() {
     match words[..] {
         [] => {
             let clock = Clock::open();
-            planes::report(&clock);
+            planes(&clock);
             listings::report(&clock);
             #[cfg(target_arch = "x86_64")]
             views::report(&clock);
         }
-        ["planes"] => planes::report(&Clock::open()),
+        ["planes"] => planes(&Clock::open()),
+        ["reading"] => reading::report(&Clock::open()),
         ["memory"] => memory::report(),
         ["list", side, file, times] => listings::repeat(side, file, times),
-        _ => panic!("usage: figures [planes | memory | list SIDE FILE TIMES]"),
+        ["read", reader, plane, times] => reading::repeat(reader, plane, times),
+        _ => panic!(
+            "usage: figures [planes | reading | memory | list SIDE FILE TIMES | read READER PLANE TIMES]"
+        ),
     }
+}
+
+fn planes(clock: &Clock) {
+    reading::report(clock);
+    packed::report(clock);
+    #[cfg(target_arch = "x86_64")]
+    placing::report(clock);
 }

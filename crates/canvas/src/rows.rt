@@ -10,7 +10,7 @@ fn put_row(canvas: &mut [u8], at: usize, plane: &[u8], from: usize, w: usize)
     requires { ⌜ (at + w ≤ length (now canvas)) × (from + w ≤ length (now plane)) ⌝ }
     ensures { λ _. ⌜ now (canvas .exit) ≡ over (now (canvas .entry)) at (part (now (plane .entry)) from w) ⌝ }
 {
-    bytes::copy(&plane[from..from + w], &mut canvas[at..at + w]);
+    bulk::copy(&plane[from..from + w], &mut canvas[at..at + w]);
 }
 
 // h rows of w bytes each. They start `across` bytes apart on the canvas, and `row` bytes apart in the plane.

@@ -28,7 +28,7 @@ fn plane_line(kind: &[u8], a: Plane, dest: &[u8]) {
 }
 
 fn plane_into(input: &[u8], start: usize, stored: usize, plane: usize, code: u32, dest: &mut [u8]) {
-    let a = packet::read_plane(input, start, stored, plane, code, dest);
+    let a = reading::read_plane(input, start, stored, plane, code, dest);
     plane_line(b"P", a.told(), dest);
 }
 
@@ -71,7 +71,7 @@ pub fn plane(payload: &[u8]) {
 }
 
 fn packets_into(stream: &[u8], plane: usize, dest: &mut [u8]) {
-    let a = packet::unpack(stream, dest, plane);
+    let a = reading::unpack(stream, dest, plane);
     plane_line(b"U", a.told(), dest);
 }
 

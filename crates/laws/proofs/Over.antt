@@ -6,7 +6,7 @@ use native.Mathlib.Nat.{add-sub-of-le, zero-add}
 use native.Mathlib.Numerals.{add-one}
 use native.Mathlib.Omega.{arith}
 use lib.ListN.{length, take, drop, set, getD, length-append, length-drop, take-append-drop, List·getD-append}
-use lib.Seq.{take-at, drop-at, drop-drop, length-take-le, set-split, append-snoc, getD-append-add, getD-take, getD-drop}
+use lib.Seq.{take-at, take-take, take-append-add, drop-at, drop-drop, length-take-le, set-split, append-snoc, getD-append-add, getD-take, getD-drop}
 use Rattle.laws.specs.Lists.{over}
 
 module _ {A : Type 0} where
@@ -27,6 +27,15 @@ module _ {A : Type 0} where
     pub over-take : take (i + length xs) (over t i xs) ≡ take i t ++ xs
     unfolding over
     over-take = take-at (take i t ++ xs) (drop (i + length xs) t) (i + length xs) front
+
+    -- up to some of what is written
+    pub over-ahead : (n : ℕ) → n ≤ length xs → take (i + n) (over t i xs) ≡ take i t ++ take n xs
+    over-ahead n le =
+        let some = length-take-le i t (omega arith) in
+        sym (take-take (i + n) (i + length xs) (over t i xs) (omega arith))
+        ∙ ap (take (i + n)) over-take
+        ∙ ap (λ (k : ℕ). take (k + n) (take i t ++ xs)) (sym some)
+        ∙ take-append-add (take i t) xs n
 
     pub over-drop : (n : ℕ) → i + length xs ≤ n → drop n (over t i xs) ≡ drop n t
     unfolding over

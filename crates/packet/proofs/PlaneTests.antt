@@ -1,20 +1,20 @@
 -- The plane reader's answers, each by the tests that lead to it.
 use mathlib.Core.Path.{_≡_, sym, ap, _∙_}
-use mathlib.Core.List.{List, _++_}
-use Prim.Native.Nat.{ℕ, _+_, _<_, _≤_}
+use mathlib.Core.List.{List, [], _++_, append-nil}
+use Prim.Native.Nat.{ℕ, _+_, _-_, _<_, _≤_}
 use borrow.Author.Tests.{lt-ltb, le-ltb, eq-eqb, ne-eqb}
 use lib.Dec.{eqb, ltb}
 use native.Mathlib.Omega.{arith}
-use lib.ListN.{length, drop, length-append}
+use lib.ListN.{length, take, drop, length-append, drop-of-length-le}
+use lib.Seq.{length-take-le}
 use Rattle.laws.specs.Choice.{pick}
-use Rattle.laws.specs.Lists.{part, over}
+use Rattle.laws.specs.Lists.{part}
 use Rattle.laws.specs.Results.{Result}
 use Rattle.packet.specs.declared.told.Plane.{Plane}
 use Rattle.packet.specs.Reading.{untouched, filled, unpacked, planeRead}
 use Rattle.limits.specs.Limits.{planeLimit}
 use Rattle.laws.proofs.Choice.{pick-yes, pick-no}
-use Rattle.laws.proofs.Part.{part-length, part-longer}
-use Rattle.laws.proofs.Over.{over-front}
+use Rattle.laws.proofs.Part.{lent, part-length, part-longer}
 
 module _ (input : List ℕ) (start stored plane code : ℕ) (dest : List ℕ) where
   abbrev said : Result Plane
@@ -69,11 +69,27 @@ module _ (input : List ℕ) (start stored plane code : ℕ) (dest : List ℕ) wh
           pub raw-length : (code ≡ 1 → ⊥) → (stored ≡ plane → ⊥) → said ≡ untouched 25 dest
           raw-length h n = placed ∙ pick-no _ _ _ (ne-eqb code 1 h) ∙ pick-no _ _ _ (ne-eqb stored plane n)
 
--- the raw bytes copied to the front
-pub copied :
-    (input : List ℕ) (start stored plane : ℕ) (dest after : List ℕ) → start + stored ≤ length input → stored ≡ plane
-    → after ≡ over dest 0 (part input start stored) → after ≡ part input start stored ++ drop plane dest
-copied input start stored plane dest after h e f = f ∙ over-front dest (part input start stored) plane (part-length input start stored h ∙ e)
+-- a copy of the stored part into the front of the destination: it has room there, and what it leaves
+pub copied-room :
+    (input : List ℕ) (start stored plane : ℕ) (dest : List ℕ) → start + stored ≤ length input → plane ≤ length dest → stored ≡ plane
+    → length (take (start + stored - start) (drop start input)) ≤ length (take plane dest)
+copied-room input start stored plane dest there room e =
+    omega (arith, ap length (lent input start stored), part-length input start stored there, length-take-le plane dest room)
+
+pub copied-front :
+    (input : List ℕ) (start stored plane : ℕ) (dest ys : List ℕ) → start + stored ≤ length input → plane ≤ length dest → stored ≡ plane
+    → ys ≡ take (start + stored - start) (drop start input) ++ drop (length (take (start + stored - start) (drop start input))) (take plane dest)
+    → ys ++ drop plane dest ≡ part input start stored ++ drop plane dest
+copied-front input start stored plane dest ys there room e f =
+    let is = lent input start stored in
+    let long : length (part input start stored) ≡ plane = part-length input start stored there ∙ e in
+    let none : drop plane (take plane dest) ≡ [] = drop-of-length-le (take plane dest) {i = plane} (omega (arith, length-take-le plane dest room)) in
+    ap (λ (l : List ℕ). l ++ drop plane dest)
+    (f
+    ∙ ap (λ (l : List ℕ). l ++ drop (length l) (take plane dest)) is
+    ∙ ap (λ (n : ℕ). part input start stored ++ drop n (take plane dest)) long
+    ∙ ap (λ (l : List ℕ). part input start stored ++ l) none
+    ∙ append-nil (part input start stored))
 
 -- on more input a stored part that is inside reads the same
 pub plane-longer :

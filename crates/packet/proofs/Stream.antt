@@ -206,3 +206,37 @@ onward s at left p h e =
           meaning-next (drop at s) at left p e
           ∙ ap (λ (l : List ℕ). join (bytesOf p (drop at s)) (meaningFrom l (at + sizeOf p) (left - countOf p))) (drop-drop (sizeOf p) at s);
     }
+
+-- ### The packet at a place of a stream, by its count
+
+module _ (s : List ℕ) (at left count : ℕ) (is : count ≡ getD s at 0) where
+  -- its data is there, and its bytes have room
+  pub next-literals : count < 128 → at + (1 + count) ≤ length s → 0 < left → count ≤ left → lookOf (drop at s) left ≡ Next (Literals count)
+  next-literals low there some room =
+      look-literals s at left (omega arith) (λ e. omega arith) (λ e. omega arith) (λ e. omega arith) (omega arith)
+      ∙ fitted-next (length s - (at + 1)) left (Literals (getD s at 0)) (omega arith) (omega arith)
+      ∙ ap (λ (n : ℕ). Next (Literals n)) (sym is)
+
+  pub next-run : 128 < count → at + 2 ≤ length s → 0 < left → count - 128 ≤ left → lookOf (drop at s) left ≡ Next (Run (count - 128) (getD s (at + 1) 0))
+  next-run high there some room =
+      look-run s at left (omega arith) (λ e. omega arith) (λ e. omega arith) (λ e. omega arith) (omega arith)
+      ∙ fitted-next (length s - (at + 1)) left (Run (getD s at 0 - 128) (getD s (at + 1) 0)) (omega arith) (omega arith)
+      ∙ ap (λ (n : ℕ). Next (Run (n - 128) (getD s (at + 1) 0))) (sym is)
+
+  -- a packet is known to stand there
+  module _ {q : Packet} (st : Stood (drop at s) left q) where
+    count-is : st .count ≡ count
+    count-is = ap (λ (l : List ℕ). getD l 0 0) (sym (st .is)) ∙ getD-drop at s 0 0 ∙ ap (λ (n : ℕ). getD s n 0) (add-zero at) ∙ sym is
+
+    pub stood-literals : count < 128 → q ≡ Literals count
+    unfolding packetOf
+    stood-literals low =
+        sym (st .packet) ∙ pick-yes _ _ _ (lt-ltb (st .count) 128 (omega (arith, count-is))) ∙ ap Literals count-is
+
+    pub stood-run : 128 ≤ count → q ≡ Run (count - 128) (getD s (at + 1) 0)
+    unfolding packetOf
+    stood-run high =
+        sym (st .packet)
+        ∙ pick-no _ _ _ (le-ltb (st .count) 128 (omega (arith, count-is)))
+        ∙ ap (λ (n : ℕ). Run (n - 128) (getD (st .rest) 0 0)) count-is
+        ∙ ap (Run (count - 128)) (ap (λ (l : List ℕ). getD l 1 0) (sym (st .is)) ∙ getD-drop at s 1 0)

@@ -1,7 +1,7 @@
 // Bytes that are written into a part of a slice.
 ghost use mathlib.Core.Path.{_≡_};
 ghost use Prim.Native.Nat.{_+_, _≤_};
-ghost use lib.ListN.{length, replicate};
+ghost use lib.ListN.{length};
 ghost use Rattle.laws.specs.Lists.{over, part};
 
 pub fn wide(byte: u8) -> usize
@@ -16,16 +16,4 @@ pub fn copy_over(src: &[u8], from: usize, n: usize, dest: &mut [u8], at: usize)
     ensures { λ _. ⌜ now (dest .exit) ≡ over (now (dest .entry)) at (part (now (src .entry)) from n) ⌝ }
 {
     bytes::copy(&src[from..from + n], &mut dest[at..at + n]);
-}
-
-// A byte goes n times into dest from a place on.
-pub(crate) fn repeat_over(byte: u8, n: usize, dest: &mut [u8], at: usize)
-    requires { ⌜ at + n ≤ length (now dest) ⌝ }
-    ensures { λ _. ⌜ now (dest .exit) ≡ over (now (dest .entry)) at (replicate n byte) ⌝ }
-{
-    let mut i = 0;
-    while i < n {
-        dest[at + i] = byte;
-        i += 1;
-    }
 }

@@ -1,15 +1,14 @@
-// Packets of run lengths (document 01, Packets): the packet reader and the plane reader. The caller lends every buffer, and a reader tests
-// all before it writes one byte. No reader has a `requires`. The packer (crate packer) copies and counts with the same leaves.
+// Packets of run lengths (document 01, Packets): what they are made of and what reading them answers, and the leaves that the two passes of
+// reading (crates judging and laying), the readers (crate reading) and the packer (crate packer) share.
 mod copy;
 mod packets;
-mod plane;
-mod reader;
+mod stand;
 mod told;
 
 pub use copy::copy_over;
 pub use copy::wide;
-pub use plane::read_plane;
-pub use reader::unpack;
+pub use stand::Stand;
+pub use stand::less;
 pub use told::Plane;
 
 // So many literal bytes, or a byte that is repeated so many times.
@@ -18,7 +17,8 @@ pub enum Packet {
     Run(u8, u8),
 }
 
-// What stands at a place of a stream: the end of a full plane, a packet, or a packet that is refused.
+// What stands at a place of a stream: the end of a full plane, a packet, or a packet that is refused. The definitions say a stream's meaning
+// by it; the passes come to the same end by branches of their own.
 pub enum Look {
     End,
     Next(Packet),

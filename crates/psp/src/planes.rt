@@ -17,7 +17,7 @@ pub extern "C" fn psp_read_plane(
 ) -> Plane
     ensures { λ r. ⌜ record { told = r; dest = now (dest .exit) } ≡ planeRead (now (input .entry)) start stored plane code (now (dest .entry)) ⌝ }
 {
-    let answer = packet::read_plane(input, start, stored, plane, code, dest);
+    let answer = reading::read_plane(input, start, stored, plane, code, dest);
     answer.told()
 }
 
@@ -26,7 +26,7 @@ pub extern "C" fn psp_read_plane(
 pub extern "C" fn psp_unpack(stream: &[u8], dest: &mut [u8], plane: usize) -> Plane
     ensures { λ r. ⌜ record { told = r; dest = now (dest .exit) } ≡ unpacked (now (stream .entry)) plane (now (dest .entry)) ⌝ }
 {
-    let answer = packet::unpack(stream, dest, plane);
+    let answer = reading::unpack(stream, dest, plane);
     answer.told()
 }
 

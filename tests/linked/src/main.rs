@@ -1,6 +1,7 @@
 //! Compares the library, linked through its C boundary, with the reference in
 //! one process: the generator's cases of all kinds, listings into records and
-//! counts besides, and cases too large for the generator.
+//! counts besides, cases too large for the generator, and every packet at every
+//! place near an end.
 
 mod large;
 mod linked;
@@ -53,11 +54,13 @@ fn all(seed: u64, count: u64) -> io::Result<bool> {
     let mut report = io::stdout();
     let mut comparison = Comparison::new(&mut report);
     let mut result = Ok(());
-    large::each(|case| {
+    let mut each = |case: Case| {
         if result.is_ok() {
             result = compare(&mut comparison, &case);
         }
-    });
+    };
+    large::each(&mut each);
+    cases::edges::every(&mut each);
     result?;
     cases::generate(seed, count, |case| compare(&mut comparison, case))?;
     comparison.finish(&[])

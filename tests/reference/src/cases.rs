@@ -7,6 +7,7 @@ pub mod beginnings;
 mod canvases;
 mod channels;
 mod damage;
+pub mod edges;
 mod faults;
 mod fields;
 pub mod forms;
@@ -52,6 +53,7 @@ pub fn systematic() -> Vec<Case> {
     beginnings::all(&mut cases);
     channels::all(&mut cases);
     streams::all(&mut cases);
+    edges::all(&mut cases);
     planes::all(&mut cases);
     packing::all(&mut cases);
     canvases::all(&mut cases);

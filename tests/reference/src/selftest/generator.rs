@@ -1,7 +1,7 @@
 //! Checks of the generator: it gives the same cases for a seed, keeps its own
 //! limits, and its binary form comes back.
 
-use super::Checks;
+use super::{unpacked, Checks};
 use crate::answers::answer;
 use crate::case::{Case, DESTINATION_LIMIT, PAYLOAD_LIMIT, ROOM_LIMIT};
 use crate::cases;
@@ -13,11 +13,36 @@ pub fn all(checks: &mut Checks, systematic: &[Case]) {
     checks.that("200,000 cases hold all systematic ones", few_enough);
     let family = || cases::family(&mut Random::new(7), 20);
     checks.that("the same family again", family() == family());
+    edges(checks);
     let random = made();
     checks.that("the same cases again", random == made());
     for case in random.iter().chain(systematic) {
         one(checks, case);
     }
+}
+
+/// Packets near an end are accepted and refused for every reason.
+fn edges(checks: &mut Checks) {
+    let mut numbers = [0, 21, 22, 23].map(|number| (number, 0));
+    let mut others = 0;
+    cases::edges::every(|case| {
+        let Case::Packets { plane, stream, .. } = case else {
+            return;
+        };
+        let (answer, _) = unpacked(&stream, plane);
+        match numbers
+            .iter_mut()
+            .find(|(number, _)| *number == answer.number)
+        {
+            Some((_, times)) => *times += 1,
+            None => others += 1,
+        }
+    });
+    let often = numbers.iter().all(|(_, times)| *times > 1_000);
+    checks.that(
+        "packets near an end meet every answer",
+        often && others == 0,
+    );
 }
 
 fn made() -> Vec<Case> {

@@ -7,7 +7,7 @@ returns : tie.Need-returns
 returns c =
     let start = c .before .before .before .before .before .before .before in
     copied (start .args .canvas .now) (start .args .plane .now) (c .before .before .copy .last .1 .0) (start .args .at) (start .args .from) (start .args .w) (start .pre .0) (start .pre .1)
-    (c .before .before .copy .ensures .1)
+    (c .before .before .copy .ensures)
 
 pub put-row-spec : {M : Type 1} → statement M
 put-row-spec =

@@ -1,0 +1,2 @@
+-- Laws of the first pass.
+pub mod Judged

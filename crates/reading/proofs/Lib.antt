@@ -1,0 +1,2 @@
+-- What the readers answer and leave.
+pub mod Answers
