@@ -31,7 +31,8 @@ fn past_full(stream: &[u8], plane: usize, from: Stand) -> Stand
     Stand { at, done }
 }
 
-// Past the packets that any stream and any plane of such a length have room for, up to a count of 128. Each kind has a branch of its own.
+// Past the packets at places from which 128 bytes of the stream and 127 of the plane are left, which no packet exceeds, up to a count of 128.
+// Each kind has a branch of its own, so that a guess of the kind is all that the next place of a run waits for.
 pub(crate) fn test_front(stream: &[u8], plane: usize) -> Stand
     ensures { λ r. ⌜ (r .at ≤ length (now (stream .entry))) × (r .done ≤ plane) × (verdict (length (now (stream .entry))) plane (meaning (now (stream .entry)) plane) ≡ verdict (length (now (stream .entry))) plane (meaningFrom (drop (r .at) (now (stream .entry))) (r .at) (plane - r .done))) ⌝ }
 {

@@ -5,7 +5,7 @@ use Prim.Native.Nat.{ℕ, _+_, _-_, _≤_, _<_}
 use native.Mathlib.Numerals.{add-one}
 use native.Mathlib.Omega.{arith}
 use lib.ListN.{length, take, drop, set, getD, length-take, length-drop, drop-of-length-le}
-use lib.Seq.{take-all, take-add, take-take, drop-cons, drop-drop, drop-append-le, take-append-le, take-suc-set, getD-take, getD-drop}
+use lib.Seq.{take-all, take-add, drop-cons, drop-drop, drop-append-le, take-append-le, take-suc-set, getD-take, getD-drop}
 use Rattle.laws.specs.Lists.{part, over}
 use Rattle.laws.proofs.Over.{over-length, over-one, over-over}
 

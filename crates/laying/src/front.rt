@@ -10,7 +10,7 @@ ghost use lib.ListN.{length, take, drop};
 ghost use Rattle.packet.specs.Stream.{join, meaning, meaningFrom};
 ghost use Rattle.packet.specs.Reading.{verdict};
 
-// The packets that have whole blocks behind them in the stream and in the plane.
+// The packets at places from which 129 bytes of the stream, a count and the longest block, and 128 of the plane are left.
 pub(crate) fn write_front(stream: &[u8], dest: &mut [u8]) -> Stand
     requires { ⌜ verdict (length (now stream)) (length (now dest)) (meaning (now stream) (length (now dest))) .number ≡ 0 ⌝ }
     ensures { λ r. ⌜ (r .at ≤ length (now (stream .entry))) × (r .done ≤ length (now (dest .entry))) × (length (now (dest .exit)) ≡ length (now (dest .entry))) × (meaning (now (stream .entry)) (length (now (dest .entry))) ≡ join (take (r .done) (now (dest .exit))) (meaningFrom (drop (r .at) (now (stream .entry))) (r .at) (length (now (dest .entry)) - r .done))) ⌝ }
