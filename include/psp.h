@@ -163,11 +163,12 @@ typedef struct psp_rect {
 
 /* Places an 8-bit plane of rectangle r on a canvas of one byte a pixel (0, 40, 41, 42): each canvas pixel inside r takes its byte,
  * and of padding or of pixels off the canvas nothing is taken. A row has row bytes, as the entry says: r's width, or that padded to 4. The
- * other pixels are untouched, and the whole canvas when refused. */
+ * other pixels are untouched, and the whole canvas when refused. A plane that is placed again changes nothing. */
 uint32_t psp_place(uint32_t width, uint32_t height, uint8_t *canvas, size_t pixels, psp_rect r, const uint8_t *plane, size_t length,
                    uint32_t row);
 
-/* Gives the pixels that two rectangles share, and 0,0,0,0 where there are none. */
+/* Gives the pixels that two rectangles share, and 0,0,0,0 where there are none. Several may be clipped in any order and grouping: the result
+ * is one. */
 psp_rect psp_intersect(psp_rect a, psp_rect b);
 
 /* ---- Views of an accepted input ---- */

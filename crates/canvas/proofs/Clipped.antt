@@ -20,7 +20,7 @@ use Rattle.canvas.specs.Placing.{byteOf, pixelOf, onCanvas}
 use Rattle.canvas.specs.Blocks.{frameOf, Room, Fit, rowsOf}
 use Rattle.canvas.proofs.Block.{row-inside, rows-length, block-in, block-out}
 use Rattle.canvas.proofs.Axes.{Cut, cut, Clip, clip, on-canvas, in-plane, shared-span}
-use Rattle.canvas.proofs.Pixels.{placed-is}
+use Rattle.canvas.proofs.Pixels.{placed-is, frame-has}
 
 and-true : (p q : Bool) → q ≡ true → (p && q) ≡ p
 and-true true q h = h
@@ -47,11 +47,10 @@ module _
   -- on the canvas, the rectangle's pixels are the shared ones
   on : (x y : ℕ) → x < width → y < height → hasPixel r (pos x) (pos y) ≡ hasPixel s (pos x) (pos y)
   on x y p q =
-      let frame = all (leb 0 x) (ltb x width) (leb 0 y) (ltb y height) (le-leb 0 x (omega arith)) (lt-ltb x width p) (le-leb 0 y (omega arith)) (lt-ltb y height q) in
       sym
       (ap (λ (f : Rect). hasPixel f (pos x) (pos y)) shared-is
       ∙ shared-pixels r (frameOf width height) (pos x) (pos y)
-      ∙ and-true (hasPixel r (pos x) (pos y)) _ frame)
+      ∙ and-true (hasPixel r (pos x) (pos y)) _ (frame-has width height x y p q))
 
   -- byte k is a pixel of the canvas
   column : (k : ℕ) → k % width < width

@@ -1,11 +1,12 @@
 -- What placing means, pixel by pixel, over the definition: for every canvas, rectangle, plane and row length.
 use mathlib.Core.Path.{_≡_, ap₂, _∙_}
-use mathlib.Core.Bool.{true, false}
+use mathlib.Core.Bool.{true, false, _&&_}
 use mathlib.Core.List.{List}
 use Prim.Native.Nat.{ℕ, _+_, _*_, _/_, _%_, _<_}
 use native.Mathlib.Nat.{mul-comm, mul-add-div-right, mul-add-mod-self-right, div-eq-of-lt, mod-eq-of-lt}
 use native.Mathlib.Omega.{arith}
-use borrow.Author.Tests.{ltb-true}
+use borrow.Author.Tests.{le-leb, lt-ltb, ltb-true}
+use lib.Dec.{leb}
 use lib.IntN.{ℤ, pos, negsuc}
 use lib.ListN.{length, getD}
 use lib.Signed.{leZ, ltZ}
@@ -17,7 +18,7 @@ use Rattle.rect.specs.Rect.{sideOf, widthOf, heightOf}
 use Rattle.rect.specs.Shared.{hasPixel}
 use Rattle.rect.proofs.Axis.{side-on}
 use Rattle.canvas.specs.Placing.{byteOf, pixelOf, onCanvas}
-use Rattle.canvas.specs.Blocks.{Fit}
+use Rattle.canvas.specs.Blocks.{frameOf, Fit}
 use Rattle.canvas.proofs.Block.{next}
 
 module _ (width row : ℕ) (r : Rect) (plane canvas : List ℕ) where
@@ -68,6 +69,14 @@ module _ (width row : ℕ) (r : Rect) (plane canvas : List ℕ) where
     -- and outside it is what it was
     pub pixel-outside : hasPixel r (pos x) (pos y) ≡ false → getD after (y * width + x) 0 ≡ getD canvas (y * width + x) 0
     pixel-outside h = pixel ∙ pick-no _ _ _ h
+
+-- the canvas as a rectangle has them all
+pub frame-has : (width height x y : ℕ) → x < width → y < height → hasPixel (frameOf width height) (pos x) (pos y) ≡ true
+frame-has width height x y p q =
+    let right = lt-ltb x width p in
+    let above = lt-ltb y height q in
+    let low : (n : ℕ) → leb 0 n ≡ true = λ n. le-leb 0 n (omega arith) in
+    λ i. (low x i && right i) && (low y i && above i)
 
 -- a pixel between two corners
 between : (a b : ℤ) (x : ℕ) → leZ a (pos x) ≡ true → ltZ (pos x) b ≡ true → sideOf a (pos x) < sideOf a b

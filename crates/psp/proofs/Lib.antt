@@ -1,5 +1,6 @@
--- Laws of what the exported functions leave, and of a slice that is lent again.
+-- Laws of what the exported functions leave, of a slice that is lent again, and of clipping in any order.
 pub mod Again
 pub mod Records
 pub mod Listed
 pub mod Outcomes
+pub mod Clipping

@@ -42,7 +42,7 @@ lt-not (negsuc a) (negsuc b) = less-not b a
 pub not-lt : (a b : ℤ) → ltZ a b ≡ false → leZ b a ≡ true
 not-lt a b h = not-false (leZ b a) (sym (lt-not a b) ∙ h)
 
-clash : {X : Type 0} (a b : ℤ) → ltZ a b ≡ true → leZ b a ≡ true → X
+pub clash : {X : Type 0} (a b : ℤ) → ltZ a b ≡ true → leZ b a ≡ true → X
 clash a b h k = never (sym (not-true (leZ b a) (sym (lt-not a b) ∙ h)) ∙ k)
 
 -- what is not at or above is below

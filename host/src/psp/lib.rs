@@ -88,7 +88,8 @@ pub fn pack(plane: &[u8], dest: &mut [u8]) -> Result<usize, Refusal> {
 }
 
 /// Places an 8-bit plane of rectangle `r` on a canvas of one byte a pixel. A row has `row` bytes, as
-/// the entry says: the rectangle's width, or that padded to 4.
+/// the entry says: the rectangle's width, or that padded to 4. A plane that is placed again changes
+/// nothing.
 pub fn place(
     width: u32,
     height: u32,
@@ -100,7 +101,8 @@ pub fn place(
     good(numbers::place(width, height, canvas, r, plane, row), ())
 }
 
-/// Gives the pixels that two rectangles share, and 0,0,0,0 where there are none.
+/// Gives the pixels that two rectangles share, and 0,0,0,0 where there are none. Several may be
+/// clipped in any order and grouping: the result is one.
 pub fn intersect(a: Rect, b: Rect) -> Rect {
     numbers::intersect(a, b)
 }

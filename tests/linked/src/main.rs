@@ -1,7 +1,7 @@
 //! Compares the library, linked through its C boundary, with the reference in
 //! one process: the generator's cases of all kinds, listings into records and
 //! counts besides, cases too large for the generator, and every packet at every
-//! place near an end.
+//! place near an end. Then what clipping and placing owe, of the library alone.
 
 mod large;
 mod linked;
@@ -14,6 +14,7 @@ use linked::Linked;
 use reference::answers::{answer, count, records};
 use reference::case::Case;
 use reference::cases;
+use reference::clipping;
 use reference::compare::Comparison;
 use reference::library::{Library, Reference};
 use reference::psp::listing::ENTRY_NUMBERS;
@@ -63,7 +64,22 @@ fn all(seed: u64, count: u64) -> io::Result<bool> {
     cases::edges::every(&mut each);
     result?;
     cases::generate(seed, count, |case| compare(&mut comparison, case))?;
-    comparison.finish(&[])
+    let same = comparison.finish(&[])?;
+    Ok(clips() && same)
+}
+
+/// Clipping in any order, of the library itself; true if every check holds.
+fn clips() -> bool {
+    let (mut done, mut failed) = (0, 0);
+    clipping::each(&Linked, &mut |name, holds| {
+        done += 1;
+        if !holds {
+            failed += 1;
+            println!("failed: {}", name);
+        }
+    });
+    println!("clipping: {} checks, {} failed", done, failed);
+    failed == 0
 }
 
 fn compare(comparison: &mut Comparison, case: &Case) -> io::Result<()> {

@@ -4,6 +4,7 @@
 pub mod answers;
 pub mod case;
 pub mod cases;
+pub mod clipping;
 pub mod compare;
 pub mod library;
 pub mod opened;

@@ -6,6 +6,7 @@
 mod answers;
 mod case;
 mod cases;
+mod clipping;
 mod compare;
 mod genuine;
 mod library;

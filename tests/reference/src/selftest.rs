@@ -12,6 +12,8 @@ mod views;
 mod worked;
 
 use crate::cases;
+use crate::clipping;
+use crate::library::Reference;
 use crate::psp::listing::list;
 use crate::psp::planes::{read_packets, PlaneAnswer};
 
@@ -25,6 +27,7 @@ pub fn report() -> bool {
     listing::all(&mut checks);
     known::all(&mut checks);
     planes::all(&mut checks);
+    clipping::each(&Reference, &mut |name, holds| checks.that(name, holds));
     forms::all(&mut checks);
     views::all(&mut checks);
     alphas::all(&mut checks);
