@@ -51,11 +51,11 @@ module _ (r : Rect) (e : isEmpty r ≡ false) where
   pixels-inside q all =
       let first = in-both r (r .left) (r .top) first-pixel in
       let across =
-          span-inside _ _ (q .left) (q .right) (orders .0)
-          (λ x h. in-both q x (r .top) (all x (r .top) (is-in r x (r .top) h (first .1))) .0) in
+      span-inside _ _ (q .left) (q .right) (orders .0)
+      (λ x h. in-both q x (r .top) (all x (r .top) (is-in r x (r .top) h (first .1))) .0) in
       let down =
-          span-inside _ _ (q .top) (q .bottom) (orders .1)
-          (λ y h. in-both q (r .left) y (all (r .left) y (is-in r (r .left) y (first .0) h)) .1) in
+      span-inside _ _ (q .top) (q .bottom) (orders .1)
+      (λ y h. in-both q (r .left) y (all (r .left) y (is-in r (r .left) y (first .0) h)) .1) in
       λ i. (across .0 i && down .0 i) && across .1 i && down .1 i
 
 -- ---- two rectangles
