@@ -11,7 +11,7 @@ use Rattle.rect.proofs.Order.{lt-le, lt-not, not-lt}
 use Rattle.rect.proofs.Axis.{met, meet}
 use Rattle.rect.proofs.Pixels.{empty-has}
 
--- ---- a side
+-- ### a side
 
 -- what lies from a up to b
 abbrev In : ℤ → ℤ → ℤ → Type 0
@@ -26,7 +26,7 @@ span-inside a b c d some all =
     let first = all a (met a, some) in
     (first .0, yes-or-no (ltZ d b) (λ far. not-below d (all d (lt-le a d (first .1), far) .1)) (not-lt d b))
 
--- ---- a pixel by its sides
+-- ### a pixel by its sides
 
 in-both : (r : Rect) (x y : ℤ) → hasPixel r x y ≡ true → (In (r .left) (r .right) x) × (In (r .top) (r .bottom) y)
 in-both r x y h =
@@ -47,18 +47,24 @@ module _ (r : Rect) (e : isEmpty r ≡ false) where
   pub first-pixel : hasPixel r (r .left) (r .top) ≡ true
   first-pixel = is-in r (r .left) (r .top) (met (r .left), orders .0) (met (r .top), orders .1)
 
-  pub pixels-inside : (q : Rect) → ((x y : ℤ) → hasPixel r x y ≡ true → hasPixel q x y ≡ true) → isInside r q ≡ true
-  pixels-inside q all =
-      let first = in-both r (r .left) (r .top) first-pixel in
-      let across =
-      span-inside _ _ (q .left) (q .right) (orders .0)
-      (λ x h. in-both q x (r .top) (all x (r .top) (is-in r x (r .top) h (first .1))) .0) in
-      let down =
-      span-inside _ _ (q .top) (q .bottom) (orders .1)
-      (λ y h. in-both q (r .left) y (all (r .left) y (is-in r (r .left) y (first .0) h)) .1) in
-      λ i. (across .0 i && down .0 i) && across .1 i && down .1 i
+  first : (In (r .left) (r .right) (r .left)) × (In (r .top) (r .bottom) (r .top))
+  first = in-both r (r .left) (r .top) first-pixel
 
--- ---- two rectangles
+  module _ (q : Rect) (all : (x y : ℤ) → hasPixel r x y ≡ true → hasPixel q x y ≡ true) where
+    across : (leZ (q .left) (r .left) ≡ true) × (leZ (r .right) (q .right) ≡ true)
+    across =
+        span-inside _ _ (q .left) (q .right) (orders .0)
+        (λ x h. in-both q x (r .top) (all x (r .top) (is-in r x (r .top) h (first .1))) .0)
+
+    down : (leZ (q .top) (r .top) ≡ true) × (leZ (r .bottom) (q .bottom) ≡ true)
+    down =
+        span-inside _ _ (q .top) (q .bottom) (orders .1)
+        (λ y h. in-both q (r .left) y (all (r .left) y (is-in r (r .left) y (first .0) h)) .1)
+
+    pub pixels-inside : isInside r q ≡ true
+    pixels-inside = λ i. (across .0 i && down .0 i) && across .1 i && down .1 i
+
+-- ### two rectangles
 
 inside-both : (p q : Rect) → isInside p q ≡ true → isInside q p ≡ true → p ≡ q
 inside-both p q there back =
