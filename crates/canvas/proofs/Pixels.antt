@@ -1,22 +1,21 @@
 -- What placing means, pixel by pixel, over the definition: for every canvas, rectangle, plane and row length.
 use mathlib.Core.Path.{_≡_, ap₂, _∙_}
-use mathlib.Core.Bool.{true, false, _&&_}
+use mathlib.Core.Bool.{true, false}
 use mathlib.Core.List.{List}
 use Prim.Native.Nat.{ℕ, _+_, _*_, _/_, _%_, _<_}
 use native.Mathlib.Nat.{mul-comm, mul-add-div-right, mul-add-mod-self-right, div-eq-of-lt, mod-eq-of-lt}
 use native.Mathlib.Omega.{arith}
 use borrow.Author.Tests.{le-leb, lt-ltb, ltb-true}
-use lib.Dec.{leb}
 use lib.IntN.{ℤ, pos, negsuc}
 use lib.ListN.{length, getD}
-use lib.Signed.{leZ, ltZ}
 use Rattle.laws.proofs.Choice.{pick-yes, pick-no}
 use Rattle.laws.proofs.Indexed.{indexed-length, indexed-at, indexed-is}
-use Rattle.laws.proofs.Tests.{never, both}
+use Rattle.laws.proofs.Tests.{never}
 use Rattle.rect.specs.declared.Rect.{Rect}
 use Rattle.rect.specs.Rect.{sideOf, widthOf, heightOf}
 use Rattle.rect.specs.Shared.{hasPixel}
 use Rattle.rect.proofs.Axis.{side-on}
+use Rattle.rect.proofs.Corners.{Between, pixel-between, between-pixel}
 use Rattle.canvas.specs.Placing.{byteOf, pixelOf, onCanvas}
 use Rattle.canvas.specs.Blocks.{frameOf, Fit}
 use Rattle.canvas.proofs.Block.{next}
@@ -73,17 +72,16 @@ module _ (width row : ℕ) (r : Rect) (plane canvas : List ℕ) where
 -- the canvas as a rectangle has them all
 pub frame-has : (width height x y : ℕ) → x < width → y < height → hasPixel (frameOf width height) (pos x) (pos y) ≡ true
 frame-has width height x y p q =
-    let right = lt-ltb x width p in
-    let above = lt-ltb y height q in
-    let low : (n : ℕ) → leb 0 n ≡ true = λ n. le-leb 0 n (omega arith) in
-    λ i. (low x i && right i) && (low y i && above i)
+    between-pixel (frameOf width height) (pos x) (pos y)
+    (le-leb 0 x (omega arith), lt-ltb x width p)
+    (le-leb 0 y (omega arith), lt-ltb y height q)
 
 -- a pixel between two corners
-between : (a b : ℤ) (x : ℕ) → leZ a (pos x) ≡ true → ltZ (pos x) b ≡ true → sideOf a (pos x) < sideOf a b
-between a (negsuc b) x h k = never k
-between a (pos b) x h k =
-    let low = ltb-true x b k in
-    omega (arith, side-on a x b h (omega arith))
+side-between : (a b : ℤ) (x : ℕ) → Between a b (pos x) → sideOf a (pos x) < sideOf a b
+side-between a (negsuc b) x h = never (h .1)
+side-between a (pos b) x h =
+    let low = ltb-true x b (h .1) in
+    omega (arith, side-on a x b (h .0) (omega arith))
 
 -- the byte of a pixel inside stands before the padding of its row, and in the plane
 pub record Held (r : Rect) (plane : List ℕ) (row x y : ℕ) : Type 0 where
@@ -95,11 +93,9 @@ pub pixel-held :
     {width height : ℕ} {canvas : List ℕ} {r : Rect} {plane : List ℕ} {row : ℕ} → Fit width height canvas r plane row
     → (x y : ℕ) → hasPixel r (pos x) (pos y) ≡ true → Held r plane row x y
 pixel-held {r = r} {plane} {row} fit x y h =
-    let parts = both _ _ h in
-    let across = both _ _ (parts .0) in
-    let down = both _ _ (parts .1) in
-    let w = between (r .left) (r .right) x (across .0) (across .1) in
-    let v = between (r .top) (r .bottom) y (down .0) (down .1) in
+    let sides = pixel-between r (pos x) (pos y) h in
+    let w = side-between (r .left) (r .right) x (sides .0) in
+    let v = side-between (r .top) (r .bottom) y (sides .1) in
     record {
       across = w;
       high = v;

@@ -1,11 +1,10 @@
 -- A plane touches exactly the pixels that its rectangle shares with the canvas.
 use mathlib.Core.Path.{_≡_, refl, sym, ap, _∙_}
-use mathlib.Core.Bool.{true, false, _&&_, and-comm}
+use mathlib.Core.Bool.{true, and-comm}
 use mathlib.Core.List.{List}
 use Prim.Native.Nat.{ℕ, _+_, _<_}
 use native.Mathlib.Nat.{mul-comm}
 use borrow.Author.Tests.{ltb-true}
-use lib.Dec.{leb, ltb}
 use lib.IntN.{ℤ, pos, negsuc}
 use lib.ListN.{getD}
 use Rattle.laws.proofs.Tests.{never, both, other-not}
@@ -13,6 +12,7 @@ use Rattle.rect.specs.declared.Rect.{Rect}
 use Rattle.rect.specs.Rect.{sideOf}
 use Rattle.rect.specs.Shared.{hasPixel, sharedOf}
 use Rattle.rect.proofs.Pixels.{shared-pixels}
+use Rattle.rect.proofs.Corners.{pixel-between}
 use Rattle.canvas.specs.Placing.{placed}
 use Rattle.canvas.specs.Blocks.{frameOf}
 use Rattle.canvas.specs.Touching.{OnCanvas, Touches}
@@ -22,12 +22,12 @@ use Rattle.canvas.proofs.Pixels.{frame-has}
 -- the canvas as a rectangle has its own pixels only
 frame-inside : (width height x y : ℕ) → hasPixel (frameOf width height) (pos x) (pos y) ≡ true → (x < width) × (y < height)
 frame-inside width height x y h =
-    let sides = both _ _ h in
-    (ltb-true x width (both (leb 0 x) _ (sides .0) .1), ltb-true y height (both (leb 0 y) _ (sides .1) .1))
+    let sides = pixel-between (frameOf width height) (pos x) (pos y) h in
+    (ltb-true x width (sides .0 .1), ltb-true y height (sides .1 .1))
 
 frame-only : (width height : ℕ) (x y : ℤ) → hasPixel (frameOf width height) x y ≡ true → OnCanvas width height x y
 frame-only width height (negsuc x) y h = never h
-frame-only width height (pos x) (negsuc y) h = never (both (leb 0 x && ltb x width) false h .1)
+frame-only width height (pos x) (negsuc y) h = never (pixel-between (frameOf width height) (pos x) (negsuc y) h .1 .0)
 frame-only width height (pos x) (pos y) h =
     let inside = frame-inside width height x y h in
     record { column = x; line = y; x-is = refl; y-is = refl; across = inside .0; down = inside .1 }

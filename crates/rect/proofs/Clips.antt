@@ -1,5 +1,7 @@
 -- What is shown of the intersection is true of any function whose results are the intersection: of `intersect`, by its contract.
 use mathlib.Core.Path.{_≡_, refl, sym, ap, ap₂, _∙_, subst}
+use borrow.Fn.World.{ArgsD}
+use contract.Lifetimes.{Lfts}
 use Rattle.laws.specs.Outcomes.{Call}
 use Rattle.laws.proofs.OneOutcome.{call-is}
 use Rattle.rect.specs.declared.Rect.{Rect}
@@ -8,6 +10,7 @@ use Rattle.rect.specs.Clipping.{Group, sharedBy, clippedTo, Itself, Insi
 use Rattle.rect.proofs.Pixels.{shared-pixels}
 use Rattle.rect.proofs.Clipping.{shared-order, shared-grouping, shared-itself, shared-inside, shared-seen}
 use Rattle.rect.proofs.Groups.{shared-any-order}
+use Rattle.rect.proofs.intersection.intersect as of-intersect
 use Rattle.rect.proofs.intersection.intersect.Reads as intersect
 
 module _ {Gives : Rect → Rect → Rect → Type 0} (is : (a b p : Rect) → Gives a b p → p ≡ sharedOf a b) where
@@ -31,5 +34,9 @@ module _ {Gives : Rect → Rect → Rect → Type 0} (is : (a b p : Rect) → Gi
             (λ i. shared-seen a b under picture i x y) ∙ ap (λ (r : Rect). clippedTo r under picture x y) (sym (is a b p g));
       }
 
-pub intersect-clips : Clips (λ a b p. Call {Given = Rect × Rect} (λ l xs. (xs .0, xs .1 .0)) (λ l y e. y) intersect.Learnt (a, b) p)
-intersect-clips = clips (λ a b p. call-is (λ xs. sharedOf (xs .0) (xs .1)) (λ l a y e h. h))
+-- the two that a call is given, read off its arguments
+abbrev pub two : (l : Lfts 0) → ArgsD of-intersect.signature l → Rect × Rect
+two l xs = (xs .0, xs .1 .0)
+
+pub intersect-clips : Clips (λ a b p. Call two (λ l y e. y) intersect.Learnt (a, b) p)
+intersect-clips = clips (λ a b p. call-is (λ g. sharedOf (g .0) (g .1)) (λ l a y e h. h))

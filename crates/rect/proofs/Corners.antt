@@ -1,4 +1,5 @@
--- Pixels tell the corners: a rectangle that has pixels lies inside any that has them all, and two with the same pixels are one.
+-- Pixels tell the corners: a rectangle that has pixels lies inside any that has them all, and two that are zeros where they are empty, and have
+-- the same pixels, are one.
 use mathlib.Core.Path.{_≡_, sym, ap, _∙_}
 use mathlib.Core.Bool.{true, false, not, _&&_, true≢false}
 use lib.IntN.{ℤ}
@@ -13,28 +14,28 @@ use Rattle.rect.proofs.Pixels.{empty-has}
 
 -- ### a side
 
--- what lies from a up to b
-abbrev In : ℤ → ℤ → ℤ → Type 0
-In a b x = (leZ a x ≡ true) × (ltZ x b ≡ true)
+-- what lies from a up to b, which is outside
+abbrev pub Between : ℤ → ℤ → ℤ → Type 0
+Between a b x = (leZ a x ≡ true) × (ltZ x b ≡ true)
 
 not-below : {X : Type 0} (a : ℤ) → ltZ a a ≡ true → X
 not-below a h = never (sym (lt-not a a ∙ ap not (met a)) ∙ h)
 
 -- a span with all its pixels in another: an end beyond the other's would have a pixel at the other's end
-span-inside : (a b c d : ℤ) → ltZ a b ≡ true → ((x : ℤ) → In a b x → In c d x) → (leZ c a ≡ true) × (leZ b d ≡ true)
+span-inside : (a b c d : ℤ) → ltZ a b ≡ true → ((x : ℤ) → Between a b x → Between c d x) → (leZ c a ≡ true) × (leZ b d ≡ true)
 span-inside a b c d some all =
     let first = all a (met a, some) in
     (first .0, yes-or-no (ltZ d b) (λ far. not-below d (all d (lt-le a d (first .1), far) .1)) (not-lt d b))
 
 -- ### a pixel by its sides
 
-in-both : (r : Rect) (x y : ℤ) → hasPixel r x y ≡ true → (In (r .left) (r .right) x) × (In (r .top) (r .bottom) y)
-in-both r x y h =
+pub pixel-between : (r : Rect) (x y : ℤ) → hasPixel r x y ≡ true → (Between (r .left) (r .right) x) × (Between (r .top) (r .bottom) y)
+pixel-between r x y h =
     let sides = both _ _ h in
     (both _ _ (sides .0), both _ _ (sides .1))
 
-is-in : (r : Rect) (x y : ℤ) → In (r .left) (r .right) x → In (r .top) (r .bottom) y → hasPixel r x y ≡ true
-is-in r x y p q = λ i. (p .0 i && p .1 i) && (q .0 i && q .1 i)
+pub between-pixel : (r : Rect) (x y : ℤ) → Between (r .left) (r .right) x → Between (r .top) (r .bottom) y → hasPixel r x y ≡ true
+between-pixel r x y p q = λ i. (p .0 i && p .1 i) && (q .0 i && q .1 i)
 
 -- of a rectangle that is not empty
 module _ (r : Rect) (e : isEmpty r ≡ false) where
@@ -45,40 +46,45 @@ module _ (r : Rect) (e : isEmpty r ≡ false) where
 
   -- it has its upper left pixel
   pub first-pixel : hasPixel r (r .left) (r .top) ≡ true
-  first-pixel = is-in r (r .left) (r .top) (met (r .left), orders .0) (met (r .top), orders .1)
+  first-pixel = between-pixel r (r .left) (r .top) (met (r .left), orders .0) (met (r .top), orders .1)
 
-  first : (In (r .left) (r .right) (r .left)) × (In (r .top) (r .bottom) (r .top))
-  first = in-both r (r .left) (r .top) first-pixel
+  first : (Between (r .left) (r .right) (r .left)) × (Between (r .top) (r .bottom) (r .top))
+  first = pixel-between r (r .left) (r .top) first-pixel
 
   module _ (q : Rect) (all : (x y : ℤ) → hasPixel r x y ≡ true → hasPixel q x y ≡ true) where
     across : (leZ (q .left) (r .left) ≡ true) × (leZ (r .right) (q .right) ≡ true)
     across =
         span-inside _ _ (q .left) (q .right) (orders .0)
-        (λ x h. in-both q x (r .top) (all x (r .top) (is-in r x (r .top) h (first .1))) .0)
+        (λ x h. pixel-between q x (r .top) (all x (r .top) (between-pixel r x (r .top) h (first .1))) .0)
 
     down : (leZ (q .top) (r .top) ≡ true) × (leZ (r .bottom) (q .bottom) ≡ true)
     down =
         span-inside _ _ (q .top) (q .bottom) (orders .1)
-        (λ y h. in-both q (r .left) y (all (r .left) y (is-in r (r .left) y (first .0) h)) .1)
+        (λ y h. pixel-between q (r .left) y (all (r .left) y (between-pixel r (r .left) y (first .0) h)) .1)
 
     pub pixels-inside : isInside r q ≡ true
     pixels-inside = λ i. (across .0 i && down .0 i) && across .1 i && down .1 i
 
 -- ### two rectangles
 
+corners :
+    (p q : Rect) → isInside p q ≡ true
+    → (leZ (q .left) (p .left) ≡ true) × (leZ (q .top) (p .top) ≡ true) × (leZ (p .right) (q .right) ≡ true) × (leZ (p .bottom) (q .bottom) ≡ true)
+corners p q h =
+    let three = both _ _ h in
+    let two = both _ _ (three .0) in
+    let one = both _ _ (two .0) in
+    (one .0, one .1, two .1, three .1)
+
 inside-both : (p q : Rect) → isInside p q ≡ true → isInside q p ≡ true → p ≡ q
 inside-both p q there back =
-    let h₃ = both _ _ there in
-    let h₂ = both _ _ (h₃ .0) in
-    let h₁ = both _ _ (h₂ .0) in
-    let k₃ = both _ _ back in
-    let k₂ = both _ _ (k₃ .0) in
-    let k₁ = both _ _ (k₂ .0) in
+    let h = corners p q there in
+    let k = corners q p back in
     λ i. record {
-      left = meet (p .left) (q .left) (k₁ .0) (h₁ .0) i;
-      top = meet (p .top) (q .top) (k₁ .1) (h₁ .1) i;
-      right = meet (p .right) (q .right) (h₂ .1) (k₂ .1) i;
-      bottom = meet (p .bottom) (q .bottom) (h₃ .1) (k₃ .1) i;
+      left = meet (p .left) (q .left) (k .0) (h .0) i;
+      top = meet (p .top) (q .top) (k .1) (h .1) i;
+      right = meet (p .right) (q .right) (h .2) (k .2) i;
+      bottom = meet (p .bottom) (q .bottom) (h .3) (k .3) i;
     }
 
 -- zeros where it is empty: then its pixels say which rectangle it is

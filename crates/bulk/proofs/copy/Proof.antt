@@ -31,18 +31,6 @@ loop-holds : tie.Need-loop-holds Inv-loop μ-loop
 unfolding part
 loop-holds c = (omega arith, sym (over-none _ _), refl)
 
-sub-loop : tie.Need-sub-loop Inv-loop μ-loop
-sub-loop c = omega arith
-
-copy-block-requires : tie.Need-copy-block-requires Inv-loop μ-loop
-copy-block-requires c κs = omega arith
-
-add-done : tie.Need-add-done Inv-loop μ-loop
-add-done c = omega arith
-
-loop-less : tie.Need-loop-less Inv-loop μ-loop
-loop-less c = omega arith
-
 loop-again : tie.Need-loop-again Inv-loop μ-loop
 loop-again c =
     let call = c .before .before in
@@ -50,12 +38,6 @@ loop-again c =
     let a = call .before .before .before .before .before .before .args in
     let on = onward (a .src .now) (a .dest .now) (l .dest) _ (l .done) 16384 (omega arith) (omega arith) (l .inv .1) (call .copy-block .ensures) in
     (omega arith, on .0, on .1)
-
-sub-copy-block : tie.Need-sub-copy-block Inv-loop μ-loop
-sub-copy-block c = omega arith
-
-copy-block-requires-2 : tie.Need-copy-block-requires-2 Inv-loop μ-loop
-copy-block-requires-2 c κs = omega arith
 
 -- what the last block leaves
 last :
@@ -89,12 +71,12 @@ copy-spec =
     Inv-loop
     μ-loop
     loop-holds
-    sub-loop
-    copy-block-requires
-    add-done
-    loop-less
+    (λ c. omega arith)
+    (λ c κs. omega arith)
+    (λ c. omega arith)
+    (λ c. omega arith)
     loop-again
-    sub-copy-block
-    copy-block-requires-2
+    (λ c. omega arith)
+    (λ c κs. omega arith)
     same-length
     returns)

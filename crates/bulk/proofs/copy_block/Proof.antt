@@ -27,21 +27,6 @@ loop-holds : tie.Need-loop-holds Inv-loop μ-loop Inv-loop2 μ-loop2
 unfolding part
 loop-holds c = (omega arith, refl, refl)
 
-add-block : tie.Need-add-block Inv-loop μ-loop Inv-loop2 μ-loop2
-add-block c = omega arith
-
-shared-slice-read-block : tie.Need-shared-slice-read-block Inv-loop μ-loop Inv-loop2 μ-loop2
-shared-slice-read-block c = omega arith
-
-array-write-block : tie.Need-array-write-block Inv-loop μ-loop Inv-loop2 μ-loop2
-array-write-block c = omega arith
-
-add-i : tie.Need-add-i Inv-loop μ-loop Inv-loop2 μ-loop2
-add-i c = omega arith
-
-loop-less : tie.Need-loop-less Inv-loop μ-loop Inv-loop2 μ-loop2
-loop-less c = omega arith
-
 loop-again : tie.Need-loop-again Inv-loop μ-loop Inv-loop2 μ-loop2
 loop-again c =
     let l = c .before .before .loop in
@@ -54,21 +39,6 @@ loop-again c =
 loop2-holds : tie.Need-loop2-holds Inv-loop μ-loop Inv-loop2 μ-loop2
 unfolding part
 loop2-holds c = (omega arith, sym (over-none _ _), refl)
-
-array-read-dest : tie.Need-array-read-dest Inv-loop μ-loop Inv-loop2 μ-loop2
-array-read-dest c = omega arith
-
-add-dest : tie.Need-add-dest Inv-loop μ-loop Inv-loop2 μ-loop2
-add-dest c = omega arith
-
-slice-write-dest : tie.Need-slice-write-dest Inv-loop μ-loop Inv-loop2 μ-loop2
-slice-write-dest c = omega arith
-
-add-j : tie.Need-add-j Inv-loop μ-loop Inv-loop2 μ-loop2
-add-j c = omega arith
-
-loop2-less : tie.Need-loop2-less Inv-loop μ-loop Inv-loop2 μ-loop2
-loop2-less c = omega arith
 
 loop2-again : tie.Need-loop2-again Inv-loop μ-loop Inv-loop2 μ-loop2
 loop2-again c =
@@ -103,18 +73,18 @@ copy-block-spec =
     Inv-loop2
     μ-loop2
     loop-holds
-    add-block
-    shared-slice-read-block
-    array-write-block
-    add-i
-    loop-less
+    (λ c. omega arith)
+    (λ c. omega arith)
+    (λ c. omega arith)
+    (λ c. omega arith)
+    (λ c. omega arith)
     loop-again
     loop2-holds
-    array-read-dest
-    add-dest
-    slice-write-dest
-    add-j
-    loop2-less
+    (λ c. omega arith)
+    (λ c. omega arith)
+    (λ c. omega arith)
+    (λ c. omega arith)
+    (λ c. omega arith)
     loop2-again
     same-length
     returns)

@@ -23,22 +23,10 @@ returns c =
     let i = c .before .before .loop .inv in
     (i .0, i .1 .within, i .1 .room, i .1 .same)
 
-shared-slice-read-if2 : tie.Need-shared-slice-read-if2 Inv-loop μ-loop
-shared-slice-read-if2 c = omega arith
-
 returns-2 : tie.Need-returns-2 Inv-loop μ-loop
 returns-2 c =
     let i = c .before .before .before .before .loop .inv in
     (i .0, i .1 .within, i .1 .room, i .1 .same)
-
-add-at : tie.Need-add-at Inv-loop μ-loop
-add-at c = omega arith
-
-add-done : tie.Need-add-done Inv-loop μ-loop
-add-done c = omega arith
-
-loop-less : tie.Need-loop-less Inv-loop μ-loop
-loop-less c = omega arith
 
 loop-again : tie.Need-loop-again Inv-loop μ-loop
 loop-again c =
@@ -60,10 +48,10 @@ past-full-spec =
     (λ c κs. search needs)
     loop-holds
     returns
-    shared-slice-read-if2
+    (λ c. omega arith)
     returns-2
-    add-at
-    add-done
-    loop-less
+    (λ c. omega arith)
+    (λ c. omega arith)
+    (λ c. omega arith)
     loop-again
     returns-3)

@@ -39,12 +39,6 @@ returns-2 c =
     let j = c .before .before .before .before .before .before .before .loop .inv in
     (j .within, j .room, j .same)
 
-past-full-requires : tie.Need-past-full-requires Inv-loop μ-loop
-past-full-requires c κs = omega arith
-
-loop-less-3 : tie.Need-loop-less-3 Inv-loop μ-loop
-loop-less-3 c = omega (arith, c .past-full .ensures .0, c .past-full .ensures .1)
-
 loop-again-3 : tie.Need-loop-again-3 Inv-loop μ-loop
 loop-again-3 c =
     let read = c .before .before .before .before in
@@ -83,7 +77,7 @@ test-front-spec =
     returns-2
     (λ c. omega arith)
     (λ c. omega arith)
-    past-full-requires
-    loop-less-3
+    (λ c κs. omega arith)
+    (λ c. omega (arith, c .past-full .ensures .0, c .past-full .ensures .1))
     loop-again-3
     returns-3)

@@ -17,9 +17,6 @@ abbrev μ-loop : tie.MeasureT-loop
 loop-holds : tie.Need-loop-holds Inv-loop μ-loop
 loop-holds c = laying-first _ _
 
-same-length : tie.Need-same-length Inv-loop μ-loop
-same-length c = c .before .before .loop .inv .long
-
 returns : tie.Need-returns Inv-loop μ-loop
 returns c =
     let l = c .before .before .loop .inv in
@@ -40,21 +37,6 @@ run c high =
     run-fits (c .before .before .before .before .loop .inv) (c .before .before .before .before .before .before .before .before .before .pre) (omega arith)
     (c .wide .result) (c .wide .ensures .0) high
 
-put-literals-requires : tie.Need-put-literals-requires Inv-loop μ-loop
-put-literals-requires c κs = omega (arith, c .before .before .before .before .before .before .loop .inv .long)
-
-add-at : tie.Need-add-at Inv-loop μ-loop
-add-at c = omega arith
-
-add-at-2 : tie.Need-add-at-2 Inv-loop μ-loop
-add-at-2 c = omega (arith, literals (c .before .before .before .before .before) (omega arith))
-
-add-done : tie.Need-add-done Inv-loop μ-loop
-add-done c = omega (arith, literals (c .before .before .before .before .before) (omega arith))
-
-loop-less : tie.Need-loop-less Inv-loop μ-loop
-loop-less c = omega (arith, literals (c .before .before .before .before .before) (omega arith))
-
 loop-again : tie.Need-loop-again Inv-loop μ-loop
 loop-again c =
     let put = c .before .before .put-literals .ensures in
@@ -62,27 +44,12 @@ loop-again c =
     let l = read .before .before .before .before in
     laying-literals (l .loop .inv) (l .before .before .before .before .before .pre) (omega arith) (read .wide .result) (read .wide .ensures .0) _ (omega arith) (put .0) (put .1)
 
-put-run-requires : tie.Need-put-run-requires Inv-loop μ-loop
-put-run-requires c κs = omega (arith, c .before .before .before .before .before .before .before .loop .inv .long, c .before .before .before .wide .ensures .1)
-
-add-at-3 : tie.Need-add-at-3 Inv-loop μ-loop
-add-at-3 c = omega (arith, run (c .before .before .before .before .before .before) (omega arith))
-
-add-done-2 : tie.Need-add-done-2 Inv-loop μ-loop
-add-done-2 c = omega (arith, run (c .before .before .before .before .before .before) (omega arith))
-
-loop-less-2 : tie.Need-loop-less-2 Inv-loop μ-loop
-loop-less-2 c = omega (arith, run (c .before .before .before .before .before .before) (omega arith))
-
 loop-again-2 : tie.Need-loop-again-2 Inv-loop μ-loop
 loop-again-2 c =
     let put = c .before .before .put-run .ensures in
     let read = c .before .before .before .before .before .before in
     let l = read .before .before .before .before in
     laying-run (l .loop .inv) (l .before .before .before .before .before .pre) (omega arith) (read .wide .result) (read .wide .ensures .0) _ (omega arith) (put .0) (put .1)
-
-same-length-2 : tie.Need-same-length-2 Inv-loop μ-loop
-same-length-2 c = c .before .loop .inv .long
 
 returns-2 : tie.Need-returns-2 Inv-loop μ-loop
 returns-2 c =
@@ -98,23 +65,23 @@ write-front-spec =
     (λ c κs. search needs)
     (λ c κs. search needs)
     loop-holds
-    same-length
+    (λ c. c .before .before .loop .inv .long)
     returns
     (λ c. omega arith)
     (λ c κs. search needs)
     (λ c. omega arith)
-    put-literals-requires
-    add-at
-    add-at-2
-    add-done
-    loop-less
+    (λ c κs. omega (arith, c .before .before .before .before .before .before .loop .inv .long))
+    (λ c. omega arith)
+    (λ c. omega (arith, literals (c .before .before .before .before .before) (omega arith)))
+    (λ c. omega (arith, literals (c .before .before .before .before .before) (omega arith)))
+    (λ c. omega (arith, literals (c .before .before .before .before .before) (omega arith)))
     loop-again
     (λ c. omega arith)
     (λ c. omega arith)
-    put-run-requires
-    add-at-3
-    add-done-2
-    loop-less-2
+    (λ c κs. omega (arith, c .before .before .before .before .before .before .before .loop .inv .long, c .before .before .before .wide .ensures .1))
+    (λ c. omega (arith, run (c .before .before .before .before .before .before) (omega arith)))
+    (λ c. omega (arith, run (c .before .before .before .before .before .before) (omega arith)))
+    (λ c. omega (arith, run (c .before .before .before .before .before .before) (omega arith)))
     loop-again-2
-    same-length-2
+    (λ c. c .before .loop .inv .long)
     returns-2)

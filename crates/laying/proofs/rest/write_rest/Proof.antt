@@ -36,18 +36,6 @@ run c high =
     run-fits (c .before .before .before .loop .inv) (c .before .before .before .before .before .before .pre .0) (omega arith)
     (c .wide .result) (c .wide .ensures .0) high
 
-copy-block-requires : tie.Need-copy-block-requires Inv-loop μ-loop
-copy-block-requires c κs = omega (arith, literals (c .before .before) (omega arith), c .before .before .before .before .before .loop .inv .long)
-
-add-at-2 : tie.Need-add-at-2 Inv-loop μ-loop
-add-at-2 c = omega (arith, literals (c .before .before .before .before .before) (omega arith))
-
-add-done : tie.Need-add-done Inv-loop μ-loop
-add-done c = omega (arith, literals (c .before .before .before .before .before) (omega arith))
-
-loop-less : tie.Need-loop-less Inv-loop μ-loop
-loop-less c = omega (arith, literals (c .before .before .before .before .before) (omega arith))
-
 loop-again : tie.Need-loop-again Inv-loop μ-loop
 loop-again c =
     let call = c .before .before in
@@ -57,24 +45,6 @@ loop-again c =
     let put = literals-ahead (l .loop .dest) (l .loop .done) (read .wide .result) (read .wide .result) _ (omega arith) (omega (arith, l .loop .inv .long)) _ _ (omega arith) (call .copy-block .ensures) in
     laying-literals (l .loop .inv) (l .before .before .before .pre .0) (omega arith) (read .wide .result) (read .wide .ensures .0) _ (omega arith) (put .0) (put .1)
 
-add-repeat-over : tie.Need-add-repeat-over Inv-loop μ-loop
-add-repeat-over c = omega arith
-
-shared-slice-read-repeat-over : tie.Need-shared-slice-read-repeat-over Inv-loop μ-loop
-shared-slice-read-repeat-over c = omega (arith, run (c .before .before) (omega arith))
-
-repeat-over-requires : tie.Need-repeat-over-requires Inv-loop μ-loop
-repeat-over-requires c κs = omega (arith, run (c .before .before .before) (omega arith), c .before .before .before .before .before .before .loop .inv .long)
-
-add-at-3 : tie.Need-add-at-3 Inv-loop μ-loop
-add-at-3 c = omega (arith, run (c .before .before .before .before .before .before) (omega arith))
-
-add-done-2 : tie.Need-add-done-2 Inv-loop μ-loop
-add-done-2 c = omega (arith, run (c .before .before .before .before .before .before) (omega arith))
-
-loop-less-2 : tie.Need-loop-less-2 Inv-loop μ-loop
-loop-less-2 c = omega (arith, run (c .before .before .before .before .before .before) (omega arith))
-
 loop-again-2 : tie.Need-loop-again-2 Inv-loop μ-loop
 loop-again-2 c =
     let call = c .before .before in
@@ -83,9 +53,6 @@ loop-again-2 c =
     let fits = run read (omega arith) in
     let put = run-ahead (l .loop .dest) (l .loop .done) (read .wide .result - 128) (read .wide .result - 128) _ (omega arith) (omega (arith, l .loop .inv .long)) _ (call .repeat-over .ensures) in
     laying-run (l .loop .inv) (l .before .before .before .pre .0) (omega arith) (read .wide .result) (read .wide .ensures .0) _ (omega arith) (put .0) (put .1)
-
-same-length : tie.Need-same-length Inv-loop μ-loop
-same-length c = c .before .loop .inv .long
 
 returns : tie.Need-returns Inv-loop μ-loop
 returns c = laying-last (c .before .loop .inv) (c .before .before .before .before .pre .0) (omega arith)
@@ -100,18 +67,18 @@ write-rest-spec =
     (λ c. omega arith)
     (λ c κs. search needs)
     (λ c. omega arith)
-    copy-block-requires
+    (λ c κs. omega (arith, literals (c .before .before) (omega arith), c .before .before .before .before .before .loop .inv .long))
     (λ c. omega arith)
-    add-at-2
-    add-done
-    loop-less
+    (λ c. omega (arith, literals (c .before .before .before .before .before) (omega arith)))
+    (λ c. omega (arith, literals (c .before .before .before .before .before) (omega arith)))
+    (λ c. omega (arith, literals (c .before .before .before .before .before) (omega arith)))
     loop-again
-    add-repeat-over
-    shared-slice-read-repeat-over
-    repeat-over-requires
-    add-at-3
-    add-done-2
-    loop-less-2
+    (λ c. omega arith)
+    (λ c. omega (arith, run (c .before .before) (omega arith)))
+    (λ c κs. omega (arith, run (c .before .before .before) (omega arith), c .before .before .before .before .before .before .loop .inv .long))
+    (λ c. omega (arith, run (c .before .before .before .before .before .before) (omega arith)))
+    (λ c. omega (arith, run (c .before .before .before .before .before .before) (omega arith)))
+    (λ c. omega (arith, run (c .before .before .before .before .before .before) (omega arith)))
     loop-again-2
-    same-length
+    (λ c. c .before .loop .inv .long)
     returns)
