@@ -12,7 +12,7 @@ use Rattle.rect.proofs.Order.{lt-le, lt-not, not-lt}
 use Rattle.rect.proofs.Axis.{met, meet}
 use Rattle.rect.proofs.Pixels.{empty-has}
 
--- ### a side
+-- ### A side
 
 -- what lies from a up to b, which is outside
 abbrev pub Between : ℤ → ℤ → ℤ → Type 0
@@ -27,7 +27,7 @@ span-inside a b c d some all =
     let first = all a (met a, some) in
     (first .0, yes-or-no (ltZ d b) (λ far. not-below d (all d (lt-le a d (first .1), far) .1)) (not-lt d b))
 
--- ### a pixel by its sides
+-- ### A pixel by its sides
 
 pub pixel-between : (r : Rect) (x y : ℤ) → hasPixel r x y ≡ true → (Between (r .left) (r .right) x) × (Between (r .top) (r .bottom) y)
 pixel-between r x y h =
@@ -45,11 +45,11 @@ module _ (r : Rect) (e : isEmpty r ≡ false) where
       (lt-not (r .left) (r .right) ∙ ap not (no .0), lt-not (r .top) (r .bottom) ∙ ap not (no .1))
 
   -- it has its upper left pixel
-  pub first-pixel : hasPixel r (r .left) (r .top) ≡ true
-  first-pixel = between-pixel r (r .left) (r .top) (met (r .left), orders .0) (met (r .top), orders .1)
-
   first : (Between (r .left) (r .right) (r .left)) × (Between (r .top) (r .bottom) (r .top))
-  first = pixel-between r (r .left) (r .top) first-pixel
+  first = ((met (r .left), orders .0), (met (r .top), orders .1))
+
+  pub first-pixel : hasPixel r (r .left) (r .top) ≡ true
+  first-pixel = between-pixel r (r .left) (r .top) (first .0) (first .1)
 
   module _ (q : Rect) (all : (x y : ℤ) → hasPixel r x y ≡ true → hasPixel q x y ≡ true) where
     across : (leZ (q .left) (r .left) ≡ true) × (leZ (r .right) (q .right) ≡ true)
@@ -65,7 +65,7 @@ module _ (r : Rect) (e : isEmpty r ≡ false) where
     pub pixels-inside : isInside r q ≡ true
     pixels-inside = λ i. (across .0 i && down .0 i) && across .1 i && down .1 i
 
--- ### two rectangles
+-- ### Two rectangles
 
 corners :
     (p q : Rect) → isInside p q ≡ true
