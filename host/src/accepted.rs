@@ -1,14 +1,16 @@
 //! A file in memory, listed by the library.
 
 use crate::answer::{self, Refused};
+use crate::asked::Asked;
+use crate::blocks::{Blocks, Holding};
 use crate::failure::Failure;
 use crate::fields;
 use crate::holder::{Chunk, Holder, Which};
 use crate::identity::Identity;
-use crate::lines;
 use crate::name;
 use crate::psp::ffi::{ImageChunk, ACCEPTED, ENTRY_NUMBERS, INPUT_LIMIT};
 use crate::psp::{self, Entry, Listed};
+use crate::saved;
 use std::ffi::OsStr;
 use std::fs::File;
 use std::io::{self, Read};
@@ -16,9 +18,6 @@ use std::os::unix::io::AsFd;
 
 /// A view lists again without a table, so any room will do.
 pub const ROOM: usize = usize::MAX;
-
-/// The id of a channel.
-const CHANNEL: u32 = 5;
 
 /// The bytes of a file, and what is known of it besides.
 pub struct Input {
@@ -37,13 +36,33 @@ impl Input {
         let data = open.metadata().map_err(fail)?;
         let mut bytes = Vec::new();
         let limit = INPUT_LIMIT as u64 + 1;
-        open.take(limit).read_to_end(&mut bytes).map_err(fail)?;
+        (&open).take(limit).read_to_end(&mut bytes).map_err(fail)?;
+        // Of artwork nothing more is read; a saved table may be longer than the longest one.
+        let rest = saved::rest(&bytes);
+        open.take(rest).read_to_end(&mut bytes).map_err(fail)?;
         let identity = Identity::of_regular(&data);
         Ok(Input {
             bytes,
             identity,
             size: identity.map(|_| data.len()),
         })
+    }
+
+    /// Reads a file for a command that a saved table is not enough for.
+    pub fn artwork(file: &OsStr, command: &str) -> Result<Input, Failure> {
+        let input = Input::read(file)?;
+        match saved::is(&input.bytes) {
+            true => Err(saved::needs_artwork(file, command)),
+            false => Ok(input),
+        }
+    }
+
+    /// Reads a file whose table is asked for; in any form but the plain one it must be artwork.
+    pub fn asked(command: &str, asked: &Asked) -> Result<Input, Failure> {
+        match asked.form.option() {
+            Some(option) => Input::artwork(&asked.file, &format!("{} {}", command, option)),
+            None => Input::read(&asked.file),
+        }
     }
 
     /// The refusal of its listing.
@@ -98,16 +117,15 @@ pub fn refused(answer: &Listed, table: &[u32], input: &[u8], size: Option<u64>) 
     Failure::Refused(refused.sentence())
 }
 
-/// An accepted file, with the entries of the blocks that are not skipped.
+/// An accepted file, with the blocks that are not skipped.
 pub struct Accepted {
     pub bytes: Vec<u8>,
     pub identity: Option<Identity>,
-    known: Vec<Entry>,
+    blocks: Blocks,
 }
 
 impl Accepted {
-    pub fn read(file: &OsStr) -> Result<Accepted, Failure> {
-        let input = Input::read(file)?;
+    pub fn of(input: Input) -> Result<Accepted, Failure> {
         let (answer, table) = list(&input.bytes)?;
         if answer.number != ACCEPTED {
             return Err(input.refused(&answer, &table));
@@ -117,9 +135,8 @@ impl Accepted {
 
     /// An input whose listing is accepted.
     pub fn listed(input: Input, table: &[u32]) -> Accepted {
-        let known = lines::entries(table).filter(|entry| entry.skipped == 0);
         Accepted {
-            known: known.collect(),
+            blocks: Blocks::of(table),
             bytes: input.bytes,
             identity: input.identity,
         }
@@ -132,25 +149,24 @@ impl Accepted {
 
     /// Layers, selection and alpha channels, in file order.
     pub fn holders(&self) -> impl Iterator<Item = Which> + '_ {
-        self.known.iter().filter_map(Which::of)
+        self.blocks.holdings().map(|holding| holding.which)
     }
 
     /// Those that are asked for, with all that the views show of them.
     pub fn holders_of(&self, is_asked: impl Fn(Which) -> bool) -> Result<Vec<Holder>, Failure> {
-        let mut holders = Vec::new();
-        for (index, entry) in self.known.iter().enumerate() {
-            if let Some(which) = Which::of(entry).filter(|&which| is_asked(which)) {
-                let (name, chunk) = self.shown(which, entry)?;
-                let bitmaps = self.behind(index).map(|entry| entry.bitmap).collect();
-                holders.push(Holder {
-                    which,
-                    name,
-                    chunk,
-                    bitmaps,
-                });
-            }
-        }
-        Ok(holders)
+        let holdings = self.blocks.holdings();
+        let asked = holdings.filter(|holding| is_asked(holding.which));
+        let holder = |holding: Holding| {
+            let (name, chunk) = self.shown(holding.which, holding.entry)?;
+            let bitmaps = holding.channels.iter().map(|channel| channel.bitmap);
+            Ok(Holder {
+                which: holding.which,
+                name,
+                chunk,
+                bitmaps: bitmaps.collect(),
+            })
+        };
+        asked.map(holder).collect()
     }
 
     /// Name and chunk. Each view lists the file, and there may be 65,535 alpha channels: their fields
@@ -192,17 +208,10 @@ impl Accepted {
     }
 
     /// The channels in one of them, in file order.
-    pub fn channels(&self, which: Which) -> impl Iterator<Item = &Entry> + '_ {
-        let is_it = |entry: &Entry| Which::of(entry) == Some(which);
-        let index = self.known.iter().position(is_it);
-        self.behind(index.unwrap_or(self.known.len()))
-    }
-
-    /// The channels in the one at an index: those behind it up to the next known block, since it
-    /// holds nothing else that is known.
-    fn behind(&self, index: usize) -> impl Iterator<Item = &Entry> + '_ {
-        let behind = self.known.iter().skip(index.saturating_add(1));
-        behind.take_while(|entry| entry.id == CHANNEL)
+    pub fn channels(&self, which: Which) -> &[Entry] {
+        let mut holdings = self.blocks.holdings();
+        let holding = holdings.find(|holding| holding.which == which);
+        holding.map_or(&[], |holding| holding.channels)
     }
 }
 

@@ -19,6 +19,18 @@ pub enum Form {
     Json,
 }
 
+impl Form {
+    /// The option that asks for it, if one does.
+    pub fn option(self) -> Option<&'static str> {
+        match self {
+            Form::Saved => None,
+            Form::Border => Some("--border"),
+            Form::Csv => Some("--csv"),
+            Form::Json => Some("--json"),
+        }
+    }
+}
+
 impl Asked {
     /// By the words of a command; of its options only one is given.
     pub fn of(command: &str, words: &[OsString]) -> Result<Asked, Failure> {
@@ -59,6 +71,11 @@ mod tests {
         assert_eq!(asked(&["a", "--json"]), Ok(Form::Json));
         let several = "wrong use: only one of --border, --csv and --json is given";
         assert_eq!(asked(&["a", "--json", "--csv"]), Err(several.to_string()));
+        let forms = [Form::Saved, Form::Border, Form::Csv, Form::Json];
+        for option in forms.iter().filter_map(|form| form.option()) {
+            let form = asked(&["a", option]).expect("a form");
+            assert_eq!(form.option(), Some(option));
+        }
         let line = "wrong use: the command is psp alphas FILE [--border | --csv | --json]";
         assert_eq!(asked(&["a", "b"]), Err(line.to_string()));
     }

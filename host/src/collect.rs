@@ -1,6 +1,6 @@
 //! `psp compare --all`: every file of a folder against the table beside it.
 
-use crate::accepted;
+use crate::accepted::{self, Input};
 use crate::collection::{self, Member, Total, Verdict};
 use crate::compare;
 use crate::failure::Failure;
@@ -76,7 +76,8 @@ fn judged(folder: &Path, member: &Member) -> Result<(Verdict, Option<String>), F
     };
     let compared = regular(&file)
         .and_then(|_| regular(&table))
-        .and_then(|_| compare::compared(file.as_os_str(), table.as_os_str()));
+        .and_then(|_| Input::artwork(file.as_os_str(), "compare --all"))
+        .and_then(|input| compare::with_artwork(input, table.as_os_str()));
     match compared {
         Ok((_, report)) if report.is_equal() => Ok((Verdict::Agreed, Some(report.counts()))),
         Ok((_, report)) => Ok((Verdict::Different, Some(report.counts()))),
@@ -101,7 +102,9 @@ fn of_failure(failure: Failure) -> Result<(Verdict, Option<String>), Failure> {
             let what = sentence.strip_prefix("refused: ").unwrap_or(&sentence);
             Ok((Verdict::Refused, Some(what.to_string())))
         }
-        Failure::Unreadable(sentence) => Ok((Verdict::Unreadable, Some(sentence))),
+        Failure::Absent(sentence) | Failure::Unreadable(sentence) => {
+            Ok((Verdict::Unreadable, Some(sentence)))
+        }
         other => Err(other),
     }
 }

@@ -1,13 +1,16 @@
 //! `psp compare`: a table typed by hand against the file's.
 
-use crate::accepted::{self, Accepted};
+use crate::accepted::{self, Accepted, Input};
 use crate::arguments::{Arguments, Known};
 use crate::collect;
 use crate::difference::{self, Report};
 use crate::export;
 use crate::failure::Failure;
+use crate::held::Held;
+use crate::holder::Which;
 use crate::output;
-use crate::typed;
+use crate::restored;
+use crate::typed::{self, Table};
 use std::ffi::{OsStr, OsString};
 use std::io::Write;
 
@@ -33,10 +36,15 @@ Names in the file are bytes, of Windows code page 1252 as a rule. A table in UTF
 with a byte order mark, and its names are compared as code page 1252; one with other characters is
 compared as its bytes in UTF-8, and that is said. A table without a mark is compared byte by byte.
 
+FILE may be a saved table (psp save). Order, width and height are then compared, and name, left and
+top are not, since a saved table does not hold them: the last line says so, and the status is 0 if
+nothing that was compared differs. A row that cannot be read is a difference here too.
+
 --all compares each X.psp of FOLDER with the X.csv beside it, and shows a line a file: agreed,
 different, refused, no table, unreadable (the file or its table), or no file for a table alone; then
 the total. The status is 0 if every file agreed, 1 if every file was compared and any is different,
-2 if any could not be compared: refused, unreadable, without a table, or a table without a file.
+2 if any could not be compared: refused, unreadable, without a table, or a table without a file. A
+saved table is no artwork and counts as unreadable.
 ";
 
 pub fn run(words: &[OsString]) -> Result<(), Failure> {
@@ -66,9 +74,31 @@ pub fn run(words: &[OsString]) -> Result<(), Failure> {
 }
 
 /// What is said on how a table was read, and how it differs from the file's.
-pub fn compared(file: &OsStr, table: &OsStr) -> Result<(Vec<String>, Report), Failure> {
-    let layers = export::compared(&Accepted::read(file)?)?;
-    let text = accepted::read(table)?;
-    let typed = typed::table(&text).map_err(|why| accepted::unreadable(table, &why))?;
+type Compared = (Vec<String>, Report);
+
+fn compared(file: &OsStr, table: &OsStr) -> Result<Compared, Failure> {
+    let input = Input::read(file)?;
+    match restored::table(&input)? {
+        Some(numbers) => with_saved(&numbers, table),
+        None => with_artwork(input, table),
+    }
+}
+
+pub fn with_artwork(input: Input, table: &OsStr) -> Result<Compared, Failure> {
+    let layers = export::compared(&Accepted::of(input)?)?;
+    let typed = typed(table)?;
     Ok((typed.said, difference::report(&layers, &typed.rows)))
+}
+
+fn with_saved(numbers: &[u32], table: &OsStr) -> Result<Compared, Failure> {
+    let layers = Held::of(numbers, Which::is_layer);
+    let sizes: Vec<_> = layers.iter().map(|layer| layer.size).collect();
+    let typed = typed(table)?;
+    let report = difference::of_sizes(&sizes, &typed.rows);
+    Ok((vec![typed.said_of_fields], report))
+}
+
+fn typed(table: &OsStr) -> Result<Table, Failure> {
+    let text = accepted::read(table)?;
+    typed::table(&text).map_err(|why| accepted::unreadable(table, &why))
 }

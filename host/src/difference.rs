@@ -12,7 +12,12 @@ pub struct Report {
     pub lines: Vec<String>,
     layers: usize,
     rows: usize,
+    /// Whether the layers are those of a saved table.
+    is_saved: bool,
 }
+
+/// What closes a comparison that passed columns over, so that nobody takes it for the whole.
+const NOT_COMPARED: &str = "name, left and top were not compared: a saved table does not hold them";
 
 impl Report {
     pub fn is_equal(&self) -> bool {
@@ -22,8 +27,9 @@ impl Report {
     /// What was counted.
     pub fn counts(&self) -> String {
         format!(
-            "{} in the file, {} typed, {}",
+            "{} in the {}, {} typed, {}",
             counted(self.layers, "layer"),
+            if self.is_saved { "saved table" } else { "file" },
             counted(self.rows, "row"),
             counted(self.lines.len(), "difference")
         )
@@ -31,18 +37,61 @@ impl Report {
 
     /// The closing line.
     pub fn closing(&self) -> String {
-        let verdict = if self.is_equal() {
-            "no difference"
-        } else {
-            "different"
-        };
-        format!("{}: {}", verdict, self.counts())
+        let counts = self.counts();
+        match (self.is_equal(), self.is_saved) {
+            (true, false) => format!("no difference: {}", counts),
+            (true, true) => format!(
+                "no difference in order, width and height: {}; {}",
+                counts, NOT_COMPARED
+            ),
+            (false, false) => format!("different: {}", counts),
+            (false, true) => format!("different: {}; {}", counts, NOT_COMPARED),
+        }
     }
+}
+
+/// A layer as far as the file tells: a saved table has neither its name nor where it lies.
+struct Real<'a> {
+    name: Option<&'a [u8]>,
+    /// Left, top, width, height.
+    sides: [Option<i64>; 4],
+}
+
+impl Real<'_> {
+    fn of_artwork(layer: &Layer) -> Real<'_> {
+        Real {
+            name: Some(&layer.name),
+            sides: layer.rectangle.map(Some),
+        }
+    }
+
+    fn of_saved(size: &Option<[u32; 2]>) -> Real<'static> {
+        let [width, height] = match size {
+            Some(size) => size.map(|side| Some(i64::from(side))),
+            None => [None; 2],
+        };
+        Real {
+            name: None,
+            sides: [None, None, width, height],
+        }
+    }
+}
+
+/// Compares with the layers of artwork.
+pub fn report(file: &[Layer], typed: &[Row]) -> Report {
+    let file: Vec<Real> = file.iter().map(Real::of_artwork).collect();
+    compared(&file, typed, false)
+}
+
+/// Compares with the layers of a saved table, by width and height where they are known.
+pub fn of_sizes(file: &[Option<[u32; 2]>], typed: &[Row]) -> Report {
+    let file: Vec<Real> = file.iter().map(Real::of_saved).collect();
+    compared(&file, typed, true)
 }
 
 /// Tells the rows that are no layer's; then compares layer by layer, the row of a layer being the
 /// one with its number; then tells the first row in a wrong order.
-pub fn report(file: &[Layer], typed: &[Row]) -> Report {
+fn compared(file: &[Real], typed: &[Row], is_saved: bool) -> Report {
     let mut lines = Vec::new();
     let from = i64::from(is_counted_from_1(file, typed));
     if from == 1 {
@@ -66,6 +115,7 @@ pub fn report(file: &[Layer], typed: &[Row]) -> Report {
         lines,
         layers: file.len(),
         rows: typed.len(),
+        is_saved,
     }
 }
 
@@ -78,7 +128,7 @@ fn place(row: &Row, from: i64) -> Option<usize> {
 /// Whether every order that could be read is 1 or more, and more of what is typed agrees with the
 /// layer one below than with the layer of that number. A table that counts from 0 and lacks its
 /// first row agrees as it stands.
-fn is_counted_from_1(file: &[Layer], typed: &[Row]) -> bool {
+fn is_counted_from_1(file: &[Real], typed: &[Row]) -> bool {
     let agreeing = |from| -> usize {
         let pairs = typed
             .iter()
@@ -90,16 +140,16 @@ fn is_counted_from_1(file: &[Layer], typed: &[Row]) -> bool {
 }
 
 /// How many of the five fields of a row are the layer's.
-fn agreeing(layer: &Layer, row: &Row) -> usize {
-    let name = row.name.as_ref().map(|name| &name.bytes);
-    let sides = layer.rectangle.iter().zip(&row.sides);
-    usize::from(name == Some(&layer.name))
+fn agreeing(layer: &Real, row: &Row) -> usize {
+    let name = row.name.as_ref().map(|name| name.bytes.as_slice());
+    let sides = layer.sides.iter().zip(&row.sides);
+    usize::from(name.is_some() && name == layer.name)
         + sides
-            .filter(|(real, typed)| Some(**real) == **typed)
+            .filter(|(real, typed)| real.is_some() && real == typed)
             .count()
 }
 
-fn of_layer(k: usize, layer: &Layer, rows: &[&Row]) -> Vec<String> {
+fn of_layer(k: usize, layer: &Real, rows: &[&Row]) -> Vec<String> {
     let first = match rows.first() {
         Some(row) => row.line,
         None => return vec![format!("layer {}: missing from the table", k)],
@@ -125,33 +175,37 @@ fn of_layer(k: usize, layer: &Layer, rows: &[&Row]) -> Vec<String> {
 }
 
 /// What differs, field by field.
-fn fields(layer: &Layer, row: &Row) -> Vec<String> {
-    let mut told: Vec<String> = row
-        .name
-        .iter()
-        .filter_map(|typed| of_name(layer, typed))
+fn fields(layer: &Real, row: &Row) -> Vec<String> {
+    let names = layer.name.iter().zip(&row.name);
+    let mut told: Vec<String> = names
+        .filter_map(|(real, typed)| of_name(real, typed))
         .collect();
+    if let [_, _, None, None] = layer.sides {
+        told.push("the saved table's channels do not tell width and height".to_string());
+    }
     let sides = layer
-        .rectangle
+        .sides
         .iter()
         .zip(&row.sides)
         .zip(TITLES.iter().skip(2));
     for ((real, typed), title) in sides {
-        if let Some(typed) = typed.filter(|typed| typed != real) {
-            told.push(format!("{} {}, typed {}", title, real, typed));
+        match (real, typed) {
+            (Some(real), Some(typed)) if real != typed => {
+                told.push(format!("{} {}, typed {}", title, real, typed));
+            }
+            _ => {}
         }
     }
     told
 }
 
-fn of_name(layer: &Layer, typed: &Name) -> Option<String> {
-    let real = &layer.name;
-    if *real == typed.bytes {
+fn of_name(real: &[u8], typed: &Name) -> Option<String> {
+    if real == typed.bytes {
         return None;
     }
     let hint = if name::decoded(real).as_bytes() == typed.bytes {
         ", which is the same in UTF-8: save the table with a mark, or as Windows-1252"
-    } else if name::decoded(&typed.bytes).as_bytes() == *real {
+    } else if name::decoded(&typed.bytes).as_bytes() == real {
         ", and the file has the same in UTF-8"
     } else {
         ""
@@ -310,6 +364,56 @@ mod tests {
         let report = report(&file, &typed::table(text).expect("a table").rows);
         let expected = ["layer 0 (line 1): name \"CafÃ©\", typed \"Café\", and the \
             file has the same in UTF-8"];
+        assert_eq!(report.lines, expected);
+    }
+
+    const NOT_ALL: &str = "name, left and top were not compared: a saved table does not hold them";
+
+    /// Against a saved table of the same layers.
+    fn sized(text: &[u8]) -> Report {
+        let sizes = [Some([5, 5]), Some([3, 4]), Some([1, 1])];
+        of_sizes(&sizes, &typed::table(text).expect("a table").rows)
+    }
+
+    #[test]
+    fn a_saved_table_is_compared_by_order_width_and_height() {
+        let closing = format!(
+            "no difference in order, width and height: 3 layers in the saved table, 3 rows typed, \
+                0 differences; {}",
+            NOT_ALL
+        );
+        let other = b"0,x,9,9,5,5\n1,y,8,8,3,4\n2,z,7,7,1,1\n";
+        for text in [ROWS.concat(), other.to_vec()] {
+            let report = sized(&text);
+            assert_eq!(
+                (report.is_equal(), report.closing()),
+                (true, closing.clone())
+            );
+        }
+        let report = sized(&[ROWS[0], b"1,x,0,0,3,40\n", b"3,x,0,0,1,1\n"].concat());
+        let expected = [
+            "line 3: order 3, and the file has no such layer",
+            "layer 1 (line 2): height 4, typed 40",
+            "layer 2: missing from the table",
+        ];
+        assert_eq!(report.lines, expected);
+        let closing = "different: 3 layers in the saved table, 3 rows typed, 3 differences";
+        assert_eq!(report.closing(), format!("{}; {}", closing, NOT_ALL));
+    }
+
+    #[test]
+    fn what_is_typed_beside_a_saved_table_is_read_all_the_same() {
+        let text = b"1,a,x,0,5,5\n2,b,0,0,3,4\n3,c,0,0,1,1\n";
+        let expected = [SLIP, "layer 0 (line 1): left \"x\" is no whole number"];
+        assert_eq!(sized(text).lines, expected);
+    }
+
+    #[test]
+    fn a_size_that_is_not_known_is_a_difference() {
+        let rows = typed::table(b"0,a,0,0,5,5\n").expect("a table").rows;
+        let report = of_sizes(&[None], &rows);
+        let expected =
+            ["layer 0 (line 1): the saved table's channels do not tell width and height"];
         assert_eq!(report.lines, expected);
     }
 

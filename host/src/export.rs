@@ -1,6 +1,6 @@
 //! `--csv` and `--json` of `psp layers` and `psp alphas`: their tables for other programs.
 
-use crate::accepted::Accepted;
+use crate::accepted::{Accepted, Input};
 use crate::asked::Form;
 use crate::failure::Failure;
 use crate::holder::{Holder, Which};
@@ -8,11 +8,10 @@ use crate::name;
 use crate::output;
 use crate::shape::sides;
 use crate::table::{self, Alpha, Besides, Layer};
-use std::ffi::OsStr;
 use std::io::Write;
 
-pub fn layers(file: &OsStr, form: Form) -> Result<(), Failure> {
-    let holders = Accepted::read(file)?.holders_of(Which::is_layer)?;
+pub fn layers(input: Input, form: Form) -> Result<(), Failure> {
+    let holders = Accepted::of(input)?.holders_of(Which::is_layer)?;
     let layers = || holders.iter().map(layer);
     match form {
         Form::Json => {
@@ -26,8 +25,8 @@ pub fn layers(file: &OsStr, form: Form) -> Result<(), Failure> {
     }
 }
 
-pub fn alphas(file: &OsStr, form: Form) -> Result<(), Failure> {
-    let holders = Accepted::read(file)?.holders_of(|which| !which.is_layer())?;
+pub fn alphas(input: Input, form: Form) -> Result<(), Failure> {
+    let holders = Accepted::of(input)?.holders_of(|which| !which.is_layer())?;
     let alphas: Vec<Alpha> = holders.iter().filter_map(alpha).collect();
     match form {
         Form::Json => print(table::alphas_json(&alphas).as_bytes()),

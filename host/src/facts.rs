@@ -1,5 +1,6 @@
 //! `psp facts`: every field of the image and of what holds planes.
 
+use crate::accepted::Input;
 use crate::arguments::Arguments;
 use crate::failure::Failure;
 use crate::found::Found;
@@ -26,7 +27,7 @@ pub fn run(words: &[OsString]) -> Result<(), Failure> {
     let arguments = Arguments::parse(words, &[])?;
     let (file, wanted) = asked(&arguments)?;
     let is_wanted = |which| wanted.as_ref().map_or(true, |wanted| wanted.is(which));
-    let found = Found::read(file, is_wanted)?;
+    let found = Found::of(Input::artwork(file, "facts")?, is_wanted)?;
     let sections = sections(&found, wanted.is_none());
     let mut out = output::standard();
     if !sections.is_empty() {

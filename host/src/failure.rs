@@ -7,7 +7,8 @@ use std::io;
 pub enum Failure {
     /// The library refused the file.
     Refused(String),
-    /// The file has no such layer, selection, alpha channel or channel.
+    /// The file has no such layer, selection, alpha channel or channel, or is a saved table, which
+    /// has less than is asked for.
     Absent(String),
     /// The file and a typed table differ, and the output says where.
     Different,

@@ -10,6 +10,7 @@ use crate::name;
 use crate::output::{self, Progress};
 use crate::psp::ffi::{ACCEPTED, ENDS_TOO_SOON, ENTRY_NUMBERS, OVER_LIMIT, TABLE_FULL};
 use crate::psp::{self, Listed};
+use crate::saved;
 use std::ffi::{OsStr, OsString};
 use std::io::Write;
 use std::thread;
@@ -44,7 +45,7 @@ pub fn run(words: &[OsString]) -> Result<(), Failure> {
         Some(typed) => idle(typed)?,
         None => Duration::from_secs(10),
     };
-    let mut file = Growing::open(&file)?;
+    let mut file = opened(&file)?;
     let mut listing = Listing::of(&file.bytes)?;
     let mut changed = Instant::now();
     loop {
@@ -70,6 +71,15 @@ pub fn run(words: &[OsString]) -> Result<(), Failure> {
             }
             thread::sleep(POLL);
         }
+    }
+}
+
+/// The artwork, which a saved table is not.
+fn opened(path: &OsStr) -> Result<Growing, Failure> {
+    let file = Growing::open(path)?;
+    match saved::is(&file.bytes) {
+        true => Err(saved::needs_artwork(path, "follow")),
+        false => Ok(file),
     }
 }
 

@@ -9,7 +9,6 @@ use crate::holder::{Holder, Which};
 use crate::lines;
 use crate::output;
 use crate::psp::ffi::{Entry, ImageChunk, Listed, ACCEPTED};
-use std::ffi::OsStr;
 use std::io::{self, Write};
 
 pub struct Found {
@@ -27,8 +26,7 @@ struct Refusal {
 }
 
 impl Found {
-    pub fn read(file: &OsStr, is_asked: impl Fn(Which) -> bool) -> Result<Found, Failure> {
-        let input = Input::read(file)?;
+    pub fn of(input: Input, is_asked: impl Fn(Which) -> bool) -> Result<Found, Failure> {
         let (answer, table) = accepted::list(&input.bytes)?;
         if answer.number == ACCEPTED {
             return Found::whole(&Accepted::listed(input, &table), is_asked);

@@ -25,6 +25,15 @@ impl Which {
     pub fn is_layer(self) -> bool {
         matches!(self, Which::Layer(_))
     }
+
+    /// The bitmap of the planes that have its own rectangle; a layer has masks besides.
+    pub fn bitmap(self) -> u32 {
+        match self {
+            Which::Layer(_) => 0,
+            Which::Selection => 3,
+            Which::Alpha(_) => 4,
+        }
+    }
 }
 
 impl Display for Which {
@@ -95,13 +104,19 @@ impl Holder {
         if self.bitmaps.len() < usize::from(self.chunk.channels()) {
             return None;
         }
-        let masks = [(1, "transparency"), (2, "user")];
-        let has = masks
-            .iter()
-            .filter(|(bitmap, _)| self.bitmaps.contains(bitmap));
-        Some(has.map(|(_, mask)| *mask).collect())
+        Some(masks(&self.bitmaps))
     }
 }
+
+/// Which masks a layer with these bitmaps has.
+pub fn masks(bitmaps: &[u32]) -> Vec<&'static str> {
+    let masks = [(1, "transparency"), (2, "user")];
+    let has = masks.iter().filter(|(bitmap, _)| bitmaps.contains(bitmap));
+    has.map(|(_, mask)| *mask).collect()
+}
+
+/// What is shown where a channel is missing that would tell.
+pub const NOT_KNOWN: &str = "not known";
 
 #[cfg(test)]
 mod tests {

@@ -10,6 +10,12 @@ pub fn answer_line(answer: &Listed) -> String {
     )
 }
 
+/// The first line of a saved table, which holds neither the answer of a refused listing nor the
+/// length of the artwork, the place of an accepted one.
+pub fn saved_line(count: usize) -> String {
+    format!("answer 0 place - entries {}", count)
+}
+
 /// The line of an entry: index, kind, level, place, bytes owned, and what its kind has besides.
 pub fn entry_line(index: usize, entry: &Entry) -> String {
     let e = entry;
@@ -79,6 +85,7 @@ mod tests {
             count: 4,
         };
         assert_eq!(answer_line(&answer), "answer 0 place 521 entries 4");
+        assert_eq!(saved_line(4), "answer 0 place - entries 4");
         let image = only(&[0, 0, 0, 36, 52, 0, 0, 0, 0, 0, 0, 0, 0, 0]);
         assert_eq!(entry_line(0, &image), "0 image 0 36 52");
         let bank = only(&[3, 0, 0, 88, 14, 0, 0, 0, 0, 0, 0, 0, 0, 0]);

@@ -5,7 +5,8 @@ use crate::arguments::Arguments;
 use crate::failure::Failure;
 use crate::lines;
 use crate::output;
-use crate::psp::ffi::ACCEPTED;
+use crate::psp::ffi::{ACCEPTED, ENTRY_NUMBERS};
+use crate::restored;
 use std::ffi::OsString;
 use std::io::Write;
 
@@ -20,20 +21,31 @@ line behind it is an entry: index, kind, level, place, bytes owned, and then
   palette, skip   content start, stored length; a skip ends with its id
 What an entry lies in is the last one above it whose level is one less.
 Of a refused file, the entries found before the place are listed.
+Of a saved table (psp save) the lines are those of the artwork, but the place, the artwork's length,
+is not in it and is shown as -. Of a saved table that is refused nothing is listed.
 ";
 
 pub fn run(words: &[OsString]) -> Result<(), Failure> {
     let [file] = Arguments::parse(words, &[])?.operands("list FILE")?;
     let input = Input::read(&file)?;
-    let (answer, table) = accepted::list(&input.bytes)?;
-    let mut out = output::standard();
-    writeln!(out, "{}", lines::answer_line(&answer))?;
-    for (index, entry) in lines::entries(&table).enumerate() {
-        writeln!(out, "{}", lines::entry_line(index, &entry))?;
+    if let Some(table) = restored::table(&input)? {
+        return print(&lines::saved_line(table.len() / ENTRY_NUMBERS), &table);
     }
-    out.flush()?;
+    let (answer, table) = accepted::list(&input.bytes)?;
+    print(&lines::answer_line(&answer), &table)?;
     match answer.number {
         ACCEPTED => Ok(()),
         _ => Err(input.refused(&answer, &table)),
     }
+}
+
+/// Prints a first line, and a line an entry.
+fn print(first: &str, table: &[u32]) -> Result<(), Failure> {
+    let mut out = output::standard();
+    writeln!(out, "{}", first)?;
+    for (index, entry) in lines::entries(table).enumerate() {
+        writeln!(out, "{}", lines::entry_line(index, &entry))?;
+    }
+    out.flush()?;
+    Ok(())
 }

@@ -5,6 +5,7 @@ mod alphas;
 mod answer;
 mod arguments;
 mod asked;
+mod blocks;
 mod collect;
 mod collection;
 mod columns;
@@ -23,6 +24,7 @@ mod found;
 mod growing;
 mod growth;
 mod heading;
+mod held;
 mod holder;
 mod identity;
 mod judged;
@@ -35,6 +37,9 @@ mod number;
 mod output;
 mod palette;
 mod plane;
+mod restored;
+mod save;
+mod saved;
 mod shape;
 mod table;
 mod typed;
@@ -68,15 +73,17 @@ psp plane FILE alpha RANK -o OUT.pgm             that of an alpha channel
 psp compare FILE TYPED                           a table typed by hand against the file's
 psp compare --all FOLDER                         each X.psp against the X.csv beside it
 psp follow FILE [--idle SECONDS]                 the listing while the file arrives
+psp save FILE -o TABLE                           the table as a file, for a job without its artwork
 psp COMMAND --help                               more on a command
 psp --version
 
-FILE may be - for standard input, except in follow. The status is 0 if the file is accepted, 1 if
-it is refused, differs or lacks what was asked for, 2 for wrong use or a file that cannot be read or
+FILE may be - for standard input, except in follow. list, layers, alphas and compare take a saved
+table as FILE too, and know it by its content. The status is 0 if the file is accepted, 1 if it is
+refused, differs or lacks what was asked for, 2 for wrong use or a file that cannot be read or
 written.
 ";
 
-const VERSION: &str = "0.5.0";
+const VERSION: &str = "0.6.0";
 
 struct Command {
     help: &'static str,
@@ -124,6 +131,7 @@ fn command(name: &str) -> Option<Command> {
         "plane" => (plane::HELP, plane::run),
         "compare" => (compare::HELP, compare::run),
         "follow" => (follow::HELP, follow::run),
+        "save" => (save::HELP, save::run),
         _ => return None,
     };
     Some(Command { help, run })

@@ -421,6 +421,46 @@ fn a_thousand_tables_that_are_not_true_are_different() {
     assert!(made.iter().all(|&count| count > 100), "{:?}", made);
 }
 
+/// What a saved table holds of layers: width and height.
+fn sizes(layers: &[Layer]) -> Vec<Option<[u32; 2]>> {
+    let size = |layer: &Layer| {
+        let [_, _, width, height] = layer.rectangle;
+        Some([width as u32, height as u32])
+    };
+    layers.iter().map(size).collect()
+}
+
+/// The columns that are compared with those: order, width and height.
+fn held(rows: &[Cells]) -> Vec<[&[u8]; 3]> {
+    let held = rows.iter().map(|row| [0, 4, 5].map(|at| &row[at][..]));
+    held.collect()
+}
+
+#[test]
+fn a_saved_table_is_compared_by_what_it_holds_alone() {
+    let (samples, dialects) = (samples(), dialects());
+    // What cannot be read is told of any column.
+    let is_read = |kind: &&str| *kind != "a number that is none";
+    let kinds: Vec<&str> = KINDS.into_iter().filter(is_read).collect();
+    let mut draw = Draw(3);
+    let mut made = [0; 2];
+    while made.iter().sum::<usize>() < 1000 {
+        let layers = &samples[draw.below(samples.len())];
+        let (mut rows, whole) = (true_rows(layers), true_rows(layers));
+        mutate(draw.of(&kinds), &mut rows, &mut draw);
+        if rows.is_empty() {
+            continue;
+        }
+        let text = dialects[draw.below(dialects.len())].write(&rows);
+        let typed = typed::table(&text).expect("a table").rows;
+        let report = difference::of_sizes(&sizes(layers), &typed);
+        let is_equal = held(&rows) == held(&whole);
+        assert_eq!(report.is_equal(), is_equal, "{:?}: {:?}", rows, report);
+        made[usize::from(is_equal && rows != whole)] += 1;
+    }
+    assert!(made.iter().all(|&count| count > 100), "{:?}", made);
+}
+
 /// A table with any byte changed is read to its end, whatever it says.
 #[test]
 fn no_text_is_too_strange() {

@@ -1,6 +1,6 @@
 //! `psp palette`: the palette's entries, or a grey ramp.
 
-use crate::accepted::{self, Accepted, ROOM};
+use crate::accepted::{self, Accepted, Input, ROOM};
 use crate::arguments::Arguments;
 use crate::columns::{Columns, Side};
 use crate::failure::Failure;
@@ -18,7 +18,7 @@ without a palette. At depth 24 there is none.
 
 pub fn run(words: &[OsString]) -> Result<(), Failure> {
     let [file] = Arguments::parse(words, &[])?.operands("palette FILE")?;
-    let file = Accepted::read(&file)?;
+    let file = Accepted::of(Input::artwork(&file, "palette")?)?;
     let ramp = ramp();
     let view = psp::palette(&file.bytes, ROOM, &ramp);
     let table = table(accepted::good(view.number, view.bytes)?);

@@ -1,6 +1,6 @@
 //! `psp plane`: one plane, placed on a canvas of the image's size.
 
-use crate::accepted::{self, Accepted};
+use crate::accepted::{self, Accepted, Input};
 use crate::answer;
 use crate::arguments::{Arguments, Known};
 use crate::destination;
@@ -35,7 +35,7 @@ pub fn run(words: &[OsString]) -> Result<(), Failure> {
     let arguments = Arguments::parse(words, &[Known::Valued("-o")])?;
     let wrong = || Failure::Use(format!("the command is psp {}", LINE));
     let words = Words::of(&arguments)?.ok_or_else(wrong)?;
-    let file = Accepted::read(words.file)?;
+    let file = Accepted::of(Input::artwork(words.file, "plane")?)?;
     let which = file.holders().find(|&which| words.wanted.is(which));
     let which = which.ok_or_else(|| words.wanted.absent(file.holders()))?;
     let channel = channel(&file, which, words.codes.as_ref())?;
@@ -84,12 +84,12 @@ fn channel<'a>(
     which: Which,
     codes: Option<&Codes>,
 ) -> Result<&'a Entry, Failure> {
-    let mut channels = file.channels(which);
+    let mut channels = file.channels(which).iter();
     match codes {
         Some([bitmap, channel]) => {
             let is_it = |entry: &&Entry| bitmap.is(entry.bitmap) && channel.is(entry.channel);
             channels.find(is_it).ok_or_else(|| {
-                let channels = file.channels(which);
+                let channels = file.channels(which).iter();
                 let has: Vec<_> = channels.map(|of| (of.bitmap, of.channel)).collect();
                 wanted::no_channel(which, &has, [bitmap, channel])
             })

@@ -6,6 +6,7 @@ use crate::encoding::{self, Encoding};
 use crate::heading::{self, Columns, AS_DOCUMENTED, TITLES};
 use crate::name;
 use crate::number::whole;
+use crate::saved;
 use crate::words::counted;
 
 /// A typed table is at most so long; one of 64 layers is far shorter.
@@ -34,12 +35,17 @@ pub struct Row {
 pub struct Table {
     pub rows: Vec<Row>,
     pub said: Vec<String>,
+    /// The first of these where names are not compared.
+    pub said_of_fields: String,
 }
 
 /// The table that a file has, or why it has none.
 pub fn table(file: &[u8]) -> Result<Table, String> {
     if file.len() > LIMIT {
         return Err(format!("a table has at most {} bytes", LIMIT));
+    }
+    if saved::is(file) {
+        return Err("this is a saved table and no typed one".to_string());
     }
     let text = encoding::text(file)?;
     let dialect = dialect::dialect(&text.bytes)?;
@@ -55,8 +61,9 @@ pub fn table(file: &[u8]) -> Result<Table, String> {
         encoding: text.encoding,
         said: Vec::new(),
     };
-    let how = format!("read: {}; {}", dialect.sentence(), text.encoding.sentence());
-    reader.said.push(how);
+    let fields = format!("read: {}", dialect.sentence());
+    let names = text.encoding.sentence();
+    reader.said.push(format!("{}; {}", fields, names));
     let mut rows: Vec<Row> = records.map(|record| reader.row(&record)).collect();
     for first in rows.iter_mut().take(usize::from(is_wordy)) {
         let words = TITLES.join(", ");
@@ -67,6 +74,7 @@ pub fn table(file: &[u8]) -> Result<Table, String> {
     Ok(Table {
         rows,
         said: reader.said,
+        said_of_fields: fields,
     })
 }
 
@@ -275,6 +283,14 @@ mod tests {
                 compared as bytes",
         ];
         assert_eq!(said(text.as_bytes()), expected);
+        let fields = table(text.as_bytes()).expect("a table").said_of_fields;
+        assert_eq!(fields, "read: fields between semicolons, by the sep= line");
+    }
+
+    #[test]
+    fn a_saved_table_is_no_typed_one() {
+        let why = "this is a saved table and no typed one";
+        assert_eq!(table(b"\0\0\0\x05\x01\0\0\0\0"), Err(why.to_string()));
     }
 
     #[test]

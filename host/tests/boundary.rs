@@ -1,8 +1,9 @@
 //! Every function of the boundary, through the safe wrapper and the archive: document 01's worked
-//! values, its file of 521 bytes, and slices of length 0; with numbers, and with results. Built and
-//! run by host/check.
+//! values, its file of 521 bytes, document 02's saved tables, and slices of length 0; with numbers,
+//! and with results. Built and run by host/check.
 
-use psp::{numbers, Entry, Rect, Refusal, RefusedListing, RefusedPlane, ENTRY_NUMBERS};
+use psp::{numbers, Entry, Rect, Refusal, RefusedListing, RefusedPlane};
+use psp::{ENTRY_NUMBERS, SAVED_ENTRY, SAVED_HEAD};
 
 /// Document 01's file: a 1 by 1 grey image, raw, with one layer and one channel.
 fn grey() -> Vec<u8> {
@@ -169,6 +170,83 @@ fn an_empty_rectangle_has_a_row() {
     assert_eq!(canvas, [7; 6]);
 }
 
+/// Document 02's file of the entries of a table, written here by hand.
+fn saved(entries: &[[u32; ENTRY_NUMBERS]]) -> Vec<u8> {
+    let count = entries.len() as u32;
+    let length = (5 + 56 * count).to_be_bytes();
+    let mut file = [&length[..], &[1], &count.to_be_bytes()].concat();
+    file.extend(entries.iter().flatten().flat_map(|of| of.to_be_bytes()));
+    file
+}
+
+/// Entries of which no two bytes are one.
+fn two_entries() -> [[u32; ENTRY_NUMBERS]; 2] {
+    let number = |at: usize| u32::from_be_bytes([0, 1, 2, 3].map(|k| (4 * at + k) as u8 ^ 0xA5));
+    [0, ENTRY_NUMBERS].map(|first| {
+        let mut entry = [0; ENTRY_NUMBERS];
+        entry
+            .iter_mut()
+            .enumerate()
+            .for_each(|(at, of)| *of = number(first + at));
+        entry
+    })
+}
+
+#[test]
+fn a_table_is_written_and_read_back() {
+    let entries = two_entries();
+    for count in 0..=2 {
+        let file = saved(&entries[..count]);
+        assert_eq!(file.len(), SAVED_HEAD + count * SAVED_ENTRY);
+        let mut table = entries[..count].concat();
+        for part in [0, 1, 13] {
+            // Numbers that make no whole entry are not written.
+            let table = [&table[..], &vec![7; part]].concat();
+            let mut dest = vec![0xEE; file.len() + 3];
+            let written = numbers::write_table(&table, &mut dest);
+            assert_eq!((written.number, written.length), (0, file.len()));
+            assert_eq!(dest, [&file[..], &[0xEE; 3]].concat());
+        }
+        table.extend([7; 5]);
+        let mut again = vec![7; table.len()];
+        let read = numbers::read_table(&file, &mut again);
+        assert_eq!((read.number, read.count), (0, count));
+        assert_eq!(again, table);
+    }
+}
+
+#[test]
+fn a_saved_table_is_refused_in_document_02_s_order() {
+    // Room for fewer entries than there are, so that each is refused at the least.
+    let refused = |file: &[u8]| {
+        let mut table = [7; 2 * ENTRY_NUMBERS - 1];
+        let answer = numbers::read_table(file, &mut table);
+        assert_eq!((answer.count, table), (0, [7; 2 * ENTRY_NUMBERS - 1]));
+        answer.number
+    };
+    let whole = saved(&two_entries());
+    assert_eq!(refused(&whole), 73);
+    for length in 0..whole.len() {
+        assert_eq!(refused(&whole[..length]), 70, "{}", length);
+    }
+    assert_eq!(refused(&[&whole[..], &[0]].concat()), 70);
+    for (at, number) in [70, 70, 70, 70, 71, 72, 72, 72, 72].into_iter().enumerate() {
+        let mut wrong = whole.clone();
+        wrong[at..SAVED_HEAD]
+            .iter_mut()
+            .for_each(|byte| *byte ^= 0xFF);
+        assert_eq!(refused(&wrong), number, "{}", at);
+    }
+    let mut part = [&whole[..], &[0; 55]].concat();
+    part[..4].copy_from_slice(&(whole.len() as u32 - 4 + 55).to_be_bytes());
+    assert_eq!(refused(&part), 72);
+
+    let mut dest = [0xEE; SAVED_HEAD + SAVED_ENTRY - 1];
+    let written = numbers::write_table(&two_entries()[0], &mut dest);
+    assert_eq!((written.number, written.length), (73, 0));
+    assert_eq!(dest, [0xEE; SAVED_HEAD + SAVED_ENTRY - 1]);
+}
+
 #[test]
 fn views_show_parts_of_what_is_lent() {
     let file = grey();
@@ -290,6 +368,8 @@ fn slices_may_be_empty() {
     assert_eq!(numbers::unpack(&[], &mut [], 0).number, 0);
     assert_eq!(numbers::pack(&[], &mut []).length, 0);
     assert_eq!(numbers::read_plane(&[], 0, 0, 0, 0, &mut []).number, 0);
+    assert_eq!(numbers::write_table(&[], &mut []).number, 73);
+    assert_eq!(numbers::read_table(&[], &mut []).number, 70);
     assert_eq!(numbers::name(&[], 0, 0).number, 2);
     assert_eq!(numbers::alpha_name(&[], 0, 0).number, 2);
     assert_eq!(numbers::alpha_facts(&[], 0, 0).number, 2);
@@ -300,7 +380,7 @@ fn slices_may_be_empty() {
 #[test]
 fn the_library_is_the_header_s_and_the_crate_s() {
     assert_eq!(numbers::version(), psp::ffi::VERSION);
-    assert_eq!(psp::version().to_string(), "0.5.0");
+    assert_eq!(psp::version().to_string(), "0.6.0");
     // Where cargo builds this, its own manifest has the version too.
     if let Some(version) = option_env!("CARGO_PKG_VERSION") {
         assert_eq!(psp::version().to_string(), version);
@@ -386,6 +466,28 @@ fn a_plane_is_its_length_or_its_refusal() {
     let none = psp::place(1, 1, canvas, SQUARE, &[], 1);
     assert_eq!(none, Err(Refusal::PlaneWrong));
     assert_eq!(psp::intersect(SQUARE, SQUARE), SQUARE);
+}
+
+#[test]
+fn a_saved_table_is_its_length_or_its_refusal() {
+    let mut table = [0; 4 * ENTRY_NUMBERS];
+    assert_eq!(psp::list(&grey(), &mut table), Ok(4));
+    let mut file = [0; SAVED_HEAD + 4 * SAVED_ENTRY];
+    assert_eq!(psp::write_table(&table, &mut file), Ok(file.len()));
+    let mut again = [0; 4 * ENTRY_NUMBERS];
+    assert_eq!(psp::read_table(&file, &mut again), Ok(4));
+    assert_eq!(again, table);
+    let no_room = Err(Refusal::SavedNoRoom);
+    assert_eq!(psp::write_table(&table, &mut file[1..]), no_room);
+    assert_eq!(psp::read_table(&file, &mut again[1..]), no_room);
+    let refused = |at: usize, byte| {
+        let mut wrong = file;
+        wrong[at] = byte;
+        psp::read_table(&wrong, &mut [0; 4 * ENTRY_NUMBERS])
+    };
+    assert_eq!(refused(3, 0), Err(Refusal::SavedLength));
+    assert_eq!(refused(4, 2), Err(Refusal::SavedVersion));
+    assert_eq!(refused(8, 3), Err(Refusal::SavedCount));
 }
 
 #[test]

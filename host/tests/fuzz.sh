@@ -1,5 +1,5 @@
-# Damaged files: every command must end with status 0, 1 or 2, and the listing must be the independent implementation's; sourced by
-# host/check.
+# Damaged files and saved tables: every command must end with status 0, 1 or 2, the listing must be the independent implementation's, and a
+# saved table's answer document 02's; sourced by host/check.
 # shellcheck shell=sh disable=SC2154 # variables of host/check
 
 seed=1
@@ -9,20 +9,20 @@ draw() {
   drawn=$((seed / 65536 % $1))
 }
 
-# Damages one byte or cuts the file; most bytes of interest are near the start.
+# damage FILE NEAR: damages one byte or cuts the file; most bytes of interest are near the start.
 damage() {
-  size=$(wc -c < fuzz.psp)
+  size=$(wc -c < "$1")
   draw 2
-  if [ "$drawn" -eq 0 ]; then draw "$size"; else draw 800; fi
+  if [ "$drawn" -eq 0 ]; then draw "$size"; else draw "$2"; fi
   [ "$drawn" -lt "$size" ] || return 0
   at=$drawn
   draw 8
   case $drawn in
-  0) head -c "$at" fuzz.psp > shorter && mv shorter fuzz.psp ;;
-  1) put fuzz.psp "$at" '\000' ;;
-  2) put fuzz.psp "$at" '\377' ;;
-  3) put fuzz.psp "$at" '\200' ;;
-  *) draw 8 && put fuzz.psp "$at" "\\00$drawn" ;;
+  0) head -c "$at" "$1" > shorter && mv shorter "$1" ;;
+  1) put "$1" "$at" '\000' ;;
+  2) put "$1" "$at" '\377' ;;
+  3) put "$1" "$at" '\200' ;;
+  *) draw 8 && put "$1" "$at" "\\00$drawn" ;;
   esac
 }
 
@@ -39,8 +39,8 @@ while [ $run -lt 300 ]; do
   7) cp alphas.psp fuzz.psp ;;
   8) cp early.psp fuzz.psp ;;
   esac
-  damage
-  [ $((run % 3)) -ne 0 ] || damage
+  damage fuzz.psp 800
+  [ $((run % 3)) -ne 0 ] || damage fuzz.psp 800
   "$psp" list fuzz.psp > listed 2> said
   listing=$?
   ends_well "fuzz $run: list" $listing
@@ -69,5 +69,44 @@ while [ $run -lt 300 ]; do
   1-[012]- | 1-[012]-refused:* | [02]-* | 1-[3-7]-*) good ;;
   *) bad "fuzz $run: $1 of a refused file" ;;
   esac
+  run=$((run + 1))
+done
+
+# judged FILE: sets $number to what document 02 answers for a saved table.
+judged() {
+  size=$(wc -c < "$1") number=70
+  [ "$size" -ge 9 ] || return 0
+  # shellcheck disable=SC2046 # numbers
+  set -- $(od -An -v -tu1 -N 9 "$1")
+  [ $((($1 << 24) + ($2 << 16) + ($3 << 8) + $4)) -eq $((size - 4)) ] || return 0
+  number=71
+  [ "$5" -eq 1 ] || return 0
+  number=72
+  [ $((5 + 56 * (($6 << 24) + ($7 << 16) + ($8 << 8) + $9))) -eq $((size - 4)) ] || return 0
+  number=0
+}
+
+run=0
+while [ $run -lt 120 ]; do
+  case $((run % 3)) in
+  0) cp mug.table fuzz.table ;;
+  1) cp alphas.table fuzz.table ;;
+  2) cp odd.table fuzz.table ;;
+  esac
+  damage fuzz.table 12
+  [ $((run % 2)) -ne 0 ] || damage fuzz.table 12
+  "$psp" list fuzz.table > listed 2> said
+  listing=$?
+  judged fuzz.table
+  # One that is taken for artwork, by its first bytes, has a listing's answer, and is refused.
+  case $number-$listing-$(cat said) in
+  0-0- | $number-1-"psp: refused: $number, taken for a saved table: "* | 7[012]-1-"psp: refused: "[23]" at 0, "*) good ;;
+  *) bad "fuzz $run: a saved table: $number and not $listing, $(cat said)" ;;
+  esac
+  for words in 'layers fuzz.table' 'alphas fuzz.table' 'compare fuzz.table true.csv' 'facts fuzz.table' 'compare mug.psp fuzz.table'; do
+    # shellcheck disable=SC2086 # words
+    "$psp" $words > printed 2> said
+    ends_well "fuzz $run: $words" $?
+  done
   run=$((run + 1))
 done

@@ -1,6 +1,6 @@
 /* The header against the archive, in C and in C++: header FILE, document 01's file of 521 bytes. Their versions agree, their entries too,
- * a wrong field has its own place, a selection and alpha channels have their fields, and every function takes a null pointer where the
- * length is 0: its answer is the one that a buffer of length 0 gets. */
+ * a wrong field has its own place, a selection and alpha channels have their fields, a table is saved and read back, and every function
+ * takes a null pointer where the length is 0: its answer is the one that a buffer of length 0 gets. */
 #include <psp.h>
 #include <stdio.h>
 #include <string.h>
@@ -103,6 +103,35 @@ static void canvases(void) {
   hold(psp_place(1, 1, canvas, 1, square, plane + 1, 1, 1) == PSP_ACCEPTED && canvas[0] == 0, "psp_place: a row without padding");
 }
 
+static int is_saved(psp_saved a, uint32_t number, size_t length) { return a.number == number && a.length == length; }
+
+static int is_restored(psp_restored a, uint32_t number, size_t count) { return a.number == number && a.count == count; }
+
+/* The saved table of no entries is its head alone. */
+static void saved_tables(const uint8_t *file, size_t length) {
+  enum { ROOM = 4, NUMBERS = ROOM * PSP_ENTRY_NUMBERS, BYTES = PSP_SAVED_HEAD + ROOM * PSP_SAVED_ENTRY };
+  const uint8_t none[PSP_SAVED_HEAD] = {0, 0, 0, 5, 1, 0, 0, 0, 0};
+  uint32_t table[NUMBERS], again[NUMBERS];
+  uint8_t saved[BYTES];
+  hold(is_saved(psp_write_table(NULL, 0, saved, BYTES), PSP_ACCEPTED, PSP_SAVED_HEAD), "psp_write_table: no table");
+  hold(memcmp(saved, none, sizeof none) == 0, "psp_write_table: the file of no table");
+  hold(is_saved(psp_write_table(table, 0, NULL, 0), PSP_SAVED_NO_ROOM, 0), "psp_write_table: no destination");
+  hold(is_saved(psp_write_table(NULL, 0, NULL, 0), PSP_SAVED_NO_ROOM, 0), "psp_write_table: neither");
+  hold(is_restored(psp_read_table(NULL, 0, table, NUMBERS), PSP_SAVED_LENGTH, 0), "psp_read_table: no file");
+  hold(is_restored(psp_read_table(none, sizeof none, NULL, 0), PSP_ACCEPTED, 0), "psp_read_table: no table");
+  hold(is_restored(psp_read_table(NULL, 0, NULL, 0), PSP_SAVED_LENGTH, 0), "psp_read_table: neither");
+  hold(is_listed(psp_list(file, length, table, NUMBERS), PSP_ACCEPTED, length, ROOM), "psp_write_table: the listing");
+  hold(is_saved(psp_write_table(table, NUMBERS, saved, BYTES), PSP_ACCEPTED, BYTES), "psp_write_table: a table");
+  hold(saved[3] == BYTES - 4 && saved[4] == 1 && saved[8] == ROOM && saved[PSP_SAVED_HEAD + 15] == 36, "psp_write_table: the file");
+  hold(is_restored(psp_read_table(saved, BYTES, again, NUMBERS), PSP_ACCEPTED, ROOM), "psp_read_table: a table");
+  hold(memcmp(again, table, sizeof table) == 0, "psp_read_table: the same numbers");
+  hold(is_restored(psp_read_table(saved, BYTES, NULL, 0), PSP_SAVED_NO_ROOM, 0), "psp_read_table: no room");
+  saved[8]++;
+  hold(is_restored(psp_read_table(saved, BYTES, again, NUMBERS), PSP_SAVED_COUNT, 0), "psp_read_table: another count");
+  saved[4]++;
+  hold(is_restored(psp_read_table(saved, BYTES, again, NUMBERS), PSP_SAVED_VERSION, 0), "psp_read_table: another version");
+}
+
 static void views(const uint8_t *file, size_t length) {
   static const uint8_t ramp[1024] = {0};
   psp_image_facts image = psp_read_image_facts(NULL, 0, SIZE_MAX);
@@ -200,6 +229,7 @@ int main(int argc, char **argv) {
   wrong_fields(file, sizeof file);
   planes(file, sizeof file);
   canvases();
+  saved_tables(file, sizeof file);
   views(file, sizeof file);
   masks(file, sizeof file);
   vectors();

@@ -16,6 +16,8 @@ same "a picture's header" "P5 96 64 255" "$(head -n 3 mug.pgm | tr '\n' ' ' | se
 same "a picture's length" $((13 + 96 * 64)) "$(wc -c < mug.pgm | tr -d ' ')"
 [ ! -e refused.pgm ]
 same "no picture of a refused plane" 0 $?
+[ ! -e refused.table ]
+same "no table of a refused file" 0 $?
 
 # A picture is complete or not there: what stood in its place survives a disk that is full, and nothing stays beside it.
 kept() {

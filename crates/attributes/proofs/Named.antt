@@ -12,8 +12,8 @@ use lib.ListN.{length, take}
 use lib.Seq.{take-take}
 use Rattle.laws.specs.Lists.{over}
 use Rattle.laws.proofs.Tests.{never, both, either, less-or-not}
-use Rattle.endian.specs.Number.{numberAt}
-use Rattle.endian.proofs.Bytes.{bytesOf, bytes-length, each-byte, bytes-number, over-front, number-over}
+use Rattle.endian.specs.Number.{numberAt, bytesOf}
+use Rattle.endian.proofs.Bytes.{bytes-length, each-byte, bytes-number, over-front, number-over}
 use Rattle.attributes.specs.declared.fault.Fault.the-variants.{None, At}
 use Rattle.attributes.specs.Fault.{Field, field, earliest, First, Passed, Bytes, here, behind, inFront, inOrder, Names}
 use Rattle.attributes.proofs.Earliest.{kept, first, named-none}

@@ -12,8 +12,8 @@ use lib.Ieee.{binary64, ofBits}
 use lib.ListN.{length}
 use Rattle.limits.specs.Limits.{layerLimit}
 use Rattle.laws.proofs.Tests.{one-of}
-use Rattle.endian.specs.Number.{signed, numberAt}
-use Rattle.endian.proofs.Bytes.{bytesOf, bytes-length, over-front}
+use Rattle.endian.specs.Number.{signed, numberAt, bytesOf}
+use Rattle.endian.proofs.Bytes.{bytes-length, over-front}
 use Rattle.endian.proofs.Front.{number-front}
 use Rattle.attributes.specs.declared.fault.Fault.the-variants.{At}
 use Rattle.attributes.specs.Depth.{isDepth}

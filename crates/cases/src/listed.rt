@@ -10,8 +10,10 @@ ghost use mathlib.Core.Path.{_≡_};
 ghost use Prim.Native.Nat.{_≤_};
 ghost use lib.ListN.{length};
 
-// The largest room of a table, which then has at most 7,181 numbers.
+// The largest room of a table, and the most numbers that it then has.
 const ROOM: u32 = 512;
+
+pub const NUMBERS: usize = 7181;
 
 fn answered(kind: &[u8], o: Outcome) {
     let told = o.told();
@@ -27,7 +29,7 @@ fn listing_into(input: &[u8], table: &mut [u32]) {
     text(b"\n");
 }
 
-fn table() -> [u32; 7181]
+pub fn table() -> [u32; 7181]
     ensures { λ r. ⌜ 7181 ≡ length r ⌝ }
 {
     [4008636142; 7181]

@@ -8,6 +8,7 @@ mod hash;
 mod listed;
 mod planes;
 mod reader;
+mod tables;
 mod values;
 mod views;
 

@@ -10,9 +10,9 @@ ghost use Prim.Native.Nat.{_≤_};
 ghost use lib.ListN.{length};
 
 // The longest destination.
-const DESTINATION: u32 = 20000;
+pub const DESTINATION: u32 = 20000;
 
-fn held() -> [u8; 20000]
+pub fn held() -> [u8; 20000]
     ensures { λ r. ⌜ 20000 ≡ length r ⌝ }
 {
     [238; 20000]

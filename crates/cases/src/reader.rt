@@ -4,6 +4,7 @@ use crate::bitmaps;
 use crate::fields::refuse;
 use crate::listed;
 use crate::planes;
+use crate::tables;
 use crate::values;
 use crate::views;
 use libc::STDIN_FILENO;
@@ -28,6 +29,8 @@ fn answer(kind: u8, payload: &[u8]) {
         b'S' => areas::selection_facts(payload),
         b'A' => areas::alpha_facts(payload),
         b'M' => areas::alpha_name(payload),
+        b'W' => tables::write(payload),
+        b'R' => tables::read(payload),
         _ => refuse(b"?"),
     }
 }

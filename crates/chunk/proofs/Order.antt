@@ -14,8 +14,8 @@ use lib.ListN.{length, take}
 use Rattle.laws.specs.Lists.{over}
 use Rattle.laws.proofs.Tests.{both, one-of}
 use Rattle.limits.specs.Limits.{sideLimit}
-use Rattle.endian.specs.Number.{le, numberAt, signed}
-use Rattle.endian.proofs.Bytes.{bytesOf, bytes-length, over-front, number-over}
+use Rattle.endian.specs.Number.{le, numberAt, bytesOf, signed}
+use Rattle.endian.proofs.Bytes.{bytes-length, over-front, number-over}
 use Rattle.endian.proofs.Front.{number-front}
 use Rattle.rect.specs.declared.planes.Shape.{Shape}
 use Rattle.rect.specs.Rect.{rectAt, isProper, sideOf, isSaved}

@@ -9,7 +9,7 @@ use lib.Dec.{leb}
 use lib.ListN.{take, drop}
 use Rattle.endian.specs.Number.{le, numberAt}
 
-le-front : (n m : ℕ) (s : List ℕ) → n ≤ m → le n (take m s) ≡ le n s
+pub le-front : (n m : ℕ) (s : List ℕ) → n ≤ m → le n (take m s) ≡ le n s
 unfolding le
 le-front zero m s h = refl
 le-front (suc n) zero s h = absurd (omega arith)

@@ -6,7 +6,7 @@ use Prim.Native.Nat.{ℕ, zero, suc, _+_, _-_, _<_, _≤_}
 use native.Mathlib.Omega.{arith}
 use borrow.Author.Tests.{eq-eqb, eqb-true, not-false, lt-ltb, le-ltb}
 use lib.Dec.{eqb, ltb}
-use lib.ListN.{length, take, drop, getD, set, length-set, replicate, length-append, length-drop, drop-of-length-le}
+use lib.ListN.{length, take, drop, getD, set, replicate, length-append, length-drop, drop-of-length-le}
 use lib.Seq.{drop-drop, length-take-le}
 use Rattle.packet.specs.declared.Packet.{Packet}
 use Rattle.packet.specs.declared.Packet.the-variants.{Literals, Run}
@@ -19,7 +19,7 @@ use Rattle.packer.specs.declared.PackAnswer.the-variants.{Whole, NoRoom,
 use Rattle.laws.proofs.Choice.{pick-yes, pick-no, pick-ind}
 use Rattle.laws.proofs.Tests.{never}
 use Rattle.laws.proofs.Part.{part-length}
-use Rattle.laws.proofs.Over.{over-one, over-cons}
+use Rattle.laws.proofs.Over.{over-cons}
 use Rattle.laws.proofs.Written.{Written, written-first, written-more, written-front, written-length, written-all}
 use Rattle.packer.proofs.Until.{until-go, Count, count}
 use Rattle.packer.proofs.Places.{head-at}
@@ -105,12 +105,6 @@ taken (run three-equal some same c) = record { some = omega arith; few = c .few;
 taken {p} (literals {n} plain some c) =
     let len : length (take n p) ≡ n = length-take-le n p (c .within) in
     record { some = some; few = c .few; within = c .within; size = omega arith }
-
--- a count and a byte stored
-pub over-two : (t : List ℕ) (i a b : ℕ) → i + 2 ≤ length t → set (set t i a) (i + 1) b ≡ over t i (a ∷ b ∷ [])
-over-two t i a b h =
-    let len : length (set t i a) ≡ length t = length-set t i a in
-    over-one (set t i a) (i + 1) b (omega arith) ∙ over-cons t i a (b ∷ []) (omega arith)
 
 -- a count stored, and its literal bytes copied behind it
 pub stored-literals :

@@ -46,6 +46,9 @@ use Rattle.packer.specs.Packing.{packs}
 use Rattle.rect.specs.declared.Rect.{Rect}
 use Rattle.canvas.specs.Placing.{placed}
 use Rattle.canvas.proofs.PlaceTests.{place-ind}
+use Rattle.saved.specs.declared.writer.Saved.{Saved}
+use Rattle.saved.specs.declared.reader.Restored.{Restored}
+use Rattle.saved.specs.Saved.{writes, reads}
 use Rattle.psp.specs.Recorded.{ListedRecords}
 use Rattle.promises.specs.EveryInput.{Exact, header, blocks, ListsExactly, Holds, Refuses, RefusesAtPacket}
 
@@ -199,7 +202,7 @@ plane-refuses-at input start stored plane code dest =
     pick-ind R _ _ _ (λ _. unpack-refuses-at stream plane dest) (λ _.
     pick-ind R _ _ _ (λ _ low high. absurd (omega arith)) (λ _. out-of-range stream plane 25 dest (λ low high. omega arith)))))))
 
--- ### Packing, and placing
+-- ### Packing, placing, and saved tables
 
 -- a refusal told beside a buffer that was not touched, and an answer 0
 refused-as : {P : Type 0} {number : P → ℕ} {low high : ℕ} {before : List ℕ} (p : P) → low ≤ number p → number p ≤ high → Refuses number low high before (record { told = p; dest = before })
@@ -224,3 +227,19 @@ place-refuses width height canvas r plane row =
     (λ c w. refused-as 41 (omega arith) (omega arith))
     (λ c w p. refused-as 42 (omega arith) (omega arith))
     (λ c w p. well-as 0 refl)
+
+pub write-refuses : (table dest : List ℕ) → Refuses (λ (p : Saved). p .number) 70 73 dest (writes table dest)
+unfolding writes
+write-refuses table dest =
+    let R = Refuses (λ (p : Saved). p .number) 70 73 dest in
+    pick-ind R _ _ _ (λ _. refused-as _ (omega arith) (omega arith)) (λ _.
+    pick-ind R _ _ _ (λ _. refused-as _ (omega arith) (omega arith)) (λ _. well-as _ refl))
+
+pub read-refuses : (file table : List ℕ) → Refuses (λ (p : Restored). p .number) 70 73 table (reads file table)
+unfolding reads
+read-refuses file table =
+    let R = Refuses (λ (p : Restored). p .number) 70 73 table in
+    pick-ind R _ _ _ (λ _. refused-as _ (omega arith) (omega arith)) (λ _.
+    pick-ind R _ _ _ (λ _. refused-as _ (omega arith) (omega arith)) (λ _.
+    pick-ind R _ _ _ (λ _. refused-as _ (omega arith) (omega arith)) (λ _.
+    pick-ind R _ _ _ (λ _. refused-as _ (omega arith) (omega arith)) (λ _. well-as _ refl))))

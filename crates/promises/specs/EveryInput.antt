@@ -55,7 +55,7 @@ pub record Holds {A : Type 0} (xs before after : List A) : Type 0 where
   pub rest : drop (length xs) after ≡ drop (length xs) before
   pub long : length after ≡ length before
 
--- a call that refuses leaves its buffer as it was: a plane, a packed plane, a canvas
+-- a call that refuses leaves its buffer as it was: a plane, a packed plane, a canvas, a saved table, a table
 pub record Refuses {P : Type 0} (number : P → ℕ) (low high : ℕ) (before : List ℕ) (r : Result P) : Type 0 where
   pub numbered : Numbered low high (number (r .told))
   pub untouched : (number (r .told) ≡ 0 → ⊥) → r .dest ≡ before

@@ -4,3 +4,4 @@ pub mod Records
 pub mod Listed
 pub mod Outcomes
 pub mod Clipping
+pub mod Kept

@@ -13,6 +13,8 @@ use Rattle.laws.specs.Results.{Result}
 use Rattle.laws.specs.Outcomes.{OneResult, OneOutcome}
 use Rattle.laws.proofs.OneOutcome.{one, result-one}
 use Rattle.entry.specs.declared.Entry.{Entry}
+use Rattle.psp.proofs.filed.psp_read_table.Reads as read-table
+use Rattle.psp.proofs.filed.psp_write_table.Reads as write-table
 use Rattle.psp.proofs.placing.psp_intersect.Reads as intersect
 use Rattle.psp.proofs.placing.psp_place.Reads as place
 use Rattle.psp.proofs.planes.psp_pack.Reads as pack
@@ -56,6 +58,12 @@ psp-pack-one l a y z e f = told-one _ y z _ _
 
 pub psp-place-one : OneOutcome (λ l e. now (e .1 .1 .0)) place.Learnt
 psp-place-one l a y z e f = told-one _ y z _ _
+
+pub psp-write-table-one : OneOutcome (λ l e. now (e .1 .0)) write-table.Learnt
+psp-write-table-one l a y z e f = told-one _ y z _ _
+
+pub psp-read-table-one : OneOutcome (λ l e. now (e .1 .0)) read-table.Learnt
+psp-read-table-one l a y z e f = told-one _ y z _ _
 
 -- ### Two buffers: the kit reads no contract over a slice of records, so its clause is read here, by the same means
 

@@ -2,8 +2,8 @@
 
 use std::os::raw::c_double;
 
-/// PSP_VERSION: 0.5.0, as major times 10,000, minor times 100, patch.
-pub const VERSION: u32 = 500;
+/// PSP_VERSION: 0.6.0, as major times 10,000, minor times 100, patch.
+pub const VERSION: u32 = 600;
 
 // Every function: all is well.
 pub const ACCEPTED: u32 = 0;
@@ -48,12 +48,20 @@ pub const NO_LAYER: u32 = 45;
 pub const NO_SELECTION: u32 = 46;
 pub const NO_ALPHA: u32 = 47;
 
+// Saving a table, and reading it back.
+pub const SAVED_LENGTH: u32 = 70;
+pub const SAVED_VERSION: u32 = 71;
+pub const SAVED_COUNT: u32 = 72;
+pub const SAVED_NO_ROOM: u32 = 73;
+
 // Limits.
 pub const INPUT_LIMIT: usize = 67_108_864;
 pub const PLANE_LIMIT: usize = 16_777_216;
 pub const SIDE_LIMIT: u32 = 4_096;
 pub const LAYER_LIMIT: u32 = 64;
 pub const ENTRY_NUMBERS: usize = 14;
+pub const SAVED_HEAD: usize = 9;
+pub const SAVED_ENTRY: usize = 56;
 
 /// An entry of the table: a block of the file. What a kind does not fill is 0. An entry of level 1
 /// or 2 lies in the last one before it that is one level up: a channel in a layer, in the selection
@@ -128,6 +136,22 @@ pub struct Rect {
     pub top: i32,
     pub right: i32,
     pub bottom: i32,
+}
+
+/// The answer of writing a table as a file.
+#[repr(C)]
+#[derive(Clone, Copy, Debug, PartialEq, Eq)]
+pub struct Saved {
+    pub number: u32,
+    pub length: usize,
+}
+
+/// The answer of reading such a file back.
+#[repr(C)]
+#[derive(Clone, Copy, Debug, PartialEq, Eq)]
+pub struct Restored {
+    pub number: u32,
+    pub count: usize,
 }
 
 /// A part of a slice that the caller lent.
@@ -296,6 +320,13 @@ extern "C" {
         row: u32,
     ) -> u32;
     pub fn psp_intersect(a: Rect, b: Rect) -> Rect;
+    pub fn psp_write_table(table: *const u32, numbers: usize, dest: *mut u8, room: usize) -> Saved;
+    pub fn psp_read_table(
+        file: *const u8,
+        length: usize,
+        table: *mut u32,
+        numbers: usize,
+    ) -> Restored;
     pub fn psp_palette(
         input: *const u8,
         length: usize,
@@ -328,6 +359,8 @@ mod tests {
         assert_eq!(size_of::<Plane>(), 24);
         assert_eq!(size_of::<Packed>(), 16);
         assert_eq!(size_of::<Rect>(), 16);
+        assert_eq!(size_of::<Saved>(), 16);
+        assert_eq!(size_of::<Restored>(), 16);
         assert_eq!(size_of::<Part>(), 24);
         assert_eq!(size_of::<Resolution>(), 16);
         assert_eq!(size_of::<ImageChunk>(), 64);

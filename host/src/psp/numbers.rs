@@ -8,7 +8,7 @@
 use super::ffi;
 
 pub use super::ffi::{AlphaFacts, Dots, Entry, ImageFacts, LayerFacts, Listed};
-pub use super::ffi::{Packed, Plane, Rect, SelectionFacts};
+pub use super::ffi::{Packed, Plane, Rect, Restored, Saved, SelectionFacts};
 
 /// A part of a lent slice, empty when refused.
 #[derive(Clone, Copy, Debug, PartialEq, Eq)]
@@ -116,6 +116,18 @@ pub fn place(width: u32, height: u32, canvas: &mut [u8], r: Rect, plane: &[u8], 
 pub fn intersect(a: Rect, b: Rect) -> Rect {
     // SAFETY: only values travel.
     unsafe { ffi::psp_intersect(a, b) }
+}
+
+/// Writes the whole entries of a table into `dest` as a file; its rest is untouched.
+pub fn write_table(table: &[u32], dest: &mut [u8]) -> Saved {
+    // SAFETY: both slices are valid for their lengths, and dest is borrowed alone.
+    unsafe { ffi::psp_write_table(table.as_ptr(), table.len(), dest.as_mut_ptr(), dest.len()) }
+}
+
+/// Reads a saved table back into a table of numbers, fourteen an entry; its rest is untouched.
+pub fn read_table(file: &[u8], table: &mut [u32]) -> Restored {
+    // SAFETY: both slices are valid for their lengths, and the table is borrowed alone.
+    unsafe { ffi::psp_read_table(file.as_ptr(), file.len(), table.as_mut_ptr(), table.len()) }
 }
 
 /// Shows the palette's entries, four bytes each, or the ramp of a grey image without one.

@@ -78,6 +78,11 @@ refusals! {
     NoLayer, NO_LAYER, "k is past the last layer";
     NoSelection, NO_SELECTION, "no selection";
     NoAlpha, NO_ALPHA, "k is past the last alpha channel";
+    SavedLength, SAVED_LENGTH,
+        "a length that is not the file's, or that four bytes cannot say";
+    SavedVersion, SAVED_VERSION, "another version of a saved table";
+    SavedCount, SAVED_COUNT, "a count that is not the length's";
+    SavedNoRoom, SAVED_NO_ROOM, "destination too short";
 }
 
 /// A listing that was refused: why, at which place of the input (a wrong field at its first byte),
@@ -133,6 +138,7 @@ mod tests {
         let named = |number: &u32| !matches!(Refusal::of(*number), Some(Refusal::Unnamed(_)));
         let names: Vec<u32> = (0..100).filter(named).collect();
         let numbers = (0..=12).chain(20..=27).chain(30..=31).chain(40..=47);
+        let numbers = numbers.chain(70..=73);
         assert_eq!(names, numbers.collect::<Vec<u32>>());
     }
 
@@ -153,7 +159,7 @@ mod tests {
             assert!(constant.ends_with(said.as_deref().unwrap_or("")));
             count += 1;
         }
-        assert_eq!(count, 31);
+        assert_eq!(count, 35);
     }
 
     #[test]
@@ -165,6 +171,7 @@ mod tests {
         assert_eq!(Refusal::of(45), Some(Refusal::NoLayer));
         assert_eq!(Refusal::of(46), Some(Refusal::NoSelection));
         assert_eq!(Refusal::of(47), Some(Refusal::NoAlpha));
+        assert_eq!(Refusal::of(70), Some(Refusal::SavedLength));
     }
 
     #[test]

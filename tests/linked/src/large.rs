@@ -1,11 +1,13 @@
 //! Cases that no payload could hold: inputs and planes at their limits and one
-//! byte over, and planes of 4,096 by 4,096 pixels of several sorts, placed in
-//! both forms.
+//! byte over, planes of 4,096 by 4,096 pixels of several sorts, placed in both
+//! forms, and a table of a million entries, saved and read back.
 
 use reference::case::{Case, Placing, Stored};
-use reference::cases::every_listing;
+use reference::cases::{every_listing, saved};
+use reference::psp::listing::ENTRY_NUMBERS;
 use reference::psp::planes::packed_form;
 use reference::psp::rectangle::Rectangle;
+use reference::psp::saved::saved_form;
 use reference::psp::{INPUT_LIMIT, PLANE_LIMIT};
 use reference::random::Random;
 use reference::samples;
@@ -25,6 +27,7 @@ pub fn each(mut give: impl FnMut(Case)) {
         planes(&plane(PLANE), &mut give);
     }
     planes_over(&mut give);
+    tables(&mut give);
 }
 
 /// Accepted files of the limit's length and one more, with two layers, a
@@ -118,6 +121,19 @@ fn planes_over(give: &mut impl FnMut(Case)) {
     }
     stored(&plane, 0, plane.len(), give);
     stored(&packed_form(&plane), 1, plane.len(), give);
+}
+
+/// A table with numbers left over, and its file, each with more room than it
+/// needs and with too little.
+fn tables(give: &mut impl FnMut(Case)) {
+    const ENTRIES: usize = 1_000_000;
+    let table = saved::table(&mut Random::new(3), ENTRIES, ENTRY_NUMBERS - 1);
+    let file = saved_form(&table);
+    let numbers = ENTRIES * ENTRY_NUMBERS;
+    for (more, less) in [(REST as usize, 0), (0, 1)] {
+        give(saved::written(&table, file.len() + more - less));
+        give(saved::read(&file, numbers + more - less));
+    }
 }
 
 fn raw(length: usize) -> Vec<u8> {

@@ -277,4 +277,14 @@ impl Library for Linked {
             other => panic!("known is {}", other),
         }
     }
+
+    fn write_table(&self, table: &[u32], destination: &mut [u8]) -> (u32, u64) {
+        let saved = numbers::write_table(table, destination);
+        (saved.number, saved.length as u64)
+    }
+
+    fn read_table(&self, file: &[u8], table: &mut [u32]) -> (u32, u64) {
+        let restored = numbers::read_table(file, table);
+        (restored.number, restored.count as u64)
+    }
 }

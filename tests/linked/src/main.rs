@@ -1,7 +1,8 @@
 //! Compares the library, linked through its C boundary, with the reference in
 //! one process: the generator's cases of all kinds, listings into records and
-//! counts besides, cases too large for the generator, and every packet at every
-//! place near an end. Then what clipping and placing owe, of the library alone.
+//! counts besides, cases too large for the generator, every packet at every place
+//! near an end, and tables too long to be saved. Then what clipping and placing
+//! owe, of the library alone.
 
 mod large;
 mod linked;
@@ -11,7 +12,7 @@ use std::io;
 use std::process;
 
 use linked::Linked;
-use reference::answers::{answer, count, records};
+use reference::answers::{answer, count, records, written};
 use reference::case::Case;
 use reference::cases;
 use reference::clipping;
@@ -63,9 +64,26 @@ fn all(seed: u64, count: u64) -> io::Result<bool> {
     large::each(&mut each);
     cases::edges::every(&mut each);
     result?;
+    longest_tables(&mut comparison)?;
     cases::generate(seed, count, |case| compare(&mut comparison, case))?;
     let same = comparison.finish(&[])?;
     Ok(clips() && same)
+}
+
+/// The longest table whose file's length four bytes can say, a little more, and
+/// one entry more. All are refused before they are looked at, so nothing has to
+/// hold these zeros.
+fn longest_tables(comparison: &mut Comparison) -> io::Result<()> {
+    const MOST: usize = 76_695_844 * ENTRY_NUMBERS;
+    let table = vec![0; MOST + ENTRY_NUMBERS];
+    for numbers in [MOST, MOST + ENTRY_NUMBERS - 1, MOST + ENTRY_NUMBERS] {
+        for destination in [0, 100] {
+            let [got, expected] = [&Linked as &dyn Library, &Reference]
+                .map(|library| written(library, &table[..numbers], destination));
+            comparison.hold(b'W', &expected, &got.line)?;
+        }
+    }
+    Ok(())
 }
 
 /// Clipping in any order, of the library itself; true if every check holds.
@@ -105,7 +123,7 @@ fn listed_otherwise(comparison: &mut Comparison, room: usize, input: &[u8]) -> i
     ] {
         let got = records(&Linked, numbers, slots, input);
         let expected = records(&Reference, numbers, slots, input);
-        comparison.hold(b'R', &expected, &got.line)?;
+        comparison.hold(b'E', &expected, &got.line)?;
     }
     for room in [room, usize::MAX] {
         let got = count(&Linked, room, input);

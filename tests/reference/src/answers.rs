@@ -108,8 +108,30 @@ fn answer_without_file(library: &dyn Library, case: &Case) -> Answer {
             let number = library.place(placing, &mut pixels, plane);
             numbered(number, format!("C {} {}", number, fnv(&pixels)))
         }
+        _ => answer_of_saved(library, case),
+    }
+}
+
+/// The kinds that write a table as a file and read it back.
+fn answer_of_saved(library: &dyn Library, case: &Case) -> Answer {
+    match case {
+        Case::WriteTable {
+            destination,
+            numbers,
+        } => written(library, &table_of(numbers), *destination as usize),
+        Case::ReadTable { numbers, file } => {
+            let mut table = vec![NUMBER_BEFORE; *numbers as usize];
+            let (number, count) = library.read_table(file, &mut table);
+            numbered(number, format!("R {} {} {}", number, count, hash(&table)))
+        }
         _ => answer_of_values(library, case),
     }
+}
+
+/// The numbers of a table in a case, little-endian there.
+fn table_of(numbers: &[u8]) -> Vec<u32> {
+    let number = |bytes: &[u8]| u32::from_le_bytes([bytes[0], bytes[1], bytes[2], bytes[3]]);
+    numbers.chunks_exact(4).map(number).collect()
 }
 
 /// The kinds without a buffer; they refuse nothing.
@@ -164,7 +186,14 @@ pub fn records(library: &dyn Library, numbers: usize, room: usize, input: &[u8])
     let mut records: Vec<Record> = vec![[NUMBER_BEFORE; ENTRY_NUMBERS]; room];
     let got = library.list_records(input, &mut table, &mut records);
     let records: Vec<u32> = records.into_iter().flatten().collect();
-    listed('R', got, &[hash(&table), hash(&records)])
+    listed('E', got, &[hash(&table), hash(&records)])
+}
+
+/// A table written as a file. tests/linked has longer ones than a case can hold.
+pub fn written(library: &dyn Library, table: &[u32], destination: usize) -> Answer {
+    let mut buffer = vec![BEFORE; destination];
+    let (number, length) = library.write_table(table, &mut buffer);
+    numbered(number, format!("W {} {} {}", number, length, fnv(&buffer)))
 }
 
 /// A listing that stores nothing.

@@ -115,6 +115,16 @@ pub enum Case {
         bits: u64,
         metric: u8,
     },
+    /// The numbers are bytes, four each, as all numbers of a case.
+    WriteTable {
+        destination: u32,
+        numbers: Vec<u8>,
+    },
+    /// The numbers are those that the table has room for.
+    ReadTable {
+        numbers: u32,
+        file: Vec<u8>,
+    },
 }
 
 impl Case {
@@ -135,6 +145,8 @@ impl Case {
             Case::AlphaFacts { .. } => b'A',
             Case::AlphaName { .. } => b'M',
             Case::Dots { .. } => b'D',
+            Case::WriteTable { .. } => b'W',
+            Case::ReadTable { .. } => b'R',
         }
     }
 
@@ -152,6 +164,11 @@ impl Case {
             | Case::AlphaName { room, k, input } => to.u32(*room).u32(*k).string(input),
             Case::Intersection { one, other } => to.rectangle(one).rectangle(other),
             Case::Dots { bits, metric } => to.u64(*bits).u8(*metric),
+            Case::WriteTable {
+                destination,
+                numbers,
+            } => to.u32(*destination).string(numbers),
+            Case::ReadTable { numbers, file } => to.u32(*numbers).string(file),
             _ => self.pixels(&mut to),
         };
         to.bytes
@@ -185,6 +202,7 @@ impl Case {
         let mut from = Taker { rest: payload };
         let case = match kind {
             b'P' | b'U' | b'K' | b'C' | b'I' | b'D' => Case::of_parts(kind, &mut from)?,
+            b'W' | b'R' => Case::of_saved(kind, &mut from)?,
             _ => Case::of_file(kind, &mut from)?,
         };
         if from.rest.is_empty() {
@@ -215,6 +233,22 @@ impl Case {
             b'M' => Case::AlphaName { room, k, input },
             _ => return None,
         })
+    }
+
+    /// A table to be saved, which is whole numbers, or a saved one.
+    fn of_saved(kind: u8, from: &mut Taker) -> Option<Case> {
+        let (size, bytes) = (from.u32()?, from.string()?);
+        match kind {
+            b'R' => Some(Case::ReadTable {
+                numbers: size,
+                file: bytes,
+            }),
+            _ if bytes.len() % 4 == 0 => Some(Case::WriteTable {
+                destination: size,
+                numbers: bytes,
+            }),
+            _ => None,
+        }
     }
 
     /// A case of another kind. Fields of a struct expression are evaluated in

@@ -20,6 +20,7 @@ mod planes;
 mod products;
 mod rectangles;
 pub mod rows;
+pub mod saved;
 mod streams;
 pub mod sweeps;
 mod values;
@@ -37,7 +38,7 @@ use crate::write::Picture;
 /// Longest input of a case.
 pub const INPUT_LIMIT: usize = 60_000;
 
-/// One case in so many is systematic: 200,000 cases hold all of them.
+/// One case in so many is systematic: 206,000 cases hold all of them.
 const SYSTEMATIC_EVERY: u64 = 2;
 
 /// All systematic cases, each once; no seed changes them.
@@ -58,6 +59,7 @@ pub fn systematic() -> Vec<Case> {
     packing::all(&mut cases);
     canvases::all(&mut cases);
     values::all(&mut cases);
+    saved::all(&mut cases);
     // A value tried in a field may be the one that stood there already.
     let mut seen = HashSet::new();
     cases.retain(|case| seen.insert((case.kind(), case.payload())));
@@ -85,7 +87,7 @@ pub fn generate(
 }
 
 fn any(random: &mut Random) -> Case {
-    match random.below(100) {
+    match random.below(105) {
         0..=29 => listing(random),
         30..=37 => planes::plane(random),
         38..=42 => plane_of_file(random),
@@ -95,7 +97,8 @@ fn any(random: &mut Random) -> Case {
         69..=72 => values::intersection(random),
         73..=78 => palette_view(random),
         turn @ 79..=97 => facts(random, turn),
-        _ => values::dots(random),
+        98..=99 => values::dots(random),
+        _ => saved::any(random),
     }
 }
 

@@ -7,7 +7,7 @@ use crate::psp::listing::{self, ENTRY_NUMBERS};
 use crate::psp::planes::{self, PlaneAnswer};
 use crate::psp::rectangle::{self, Rectangle};
 use crate::psp::views::{self, PaletteView};
-use crate::psp::{canvas, listing::Listing};
+use crate::psp::{canvas, listing::Listing, saved};
 
 /// Number, place and entry count.
 pub type Listed = (u32, u64, u64);
@@ -34,6 +34,10 @@ pub trait Library {
     /// Number, start and length.
     fn alpha_name(&self, input: &[u8], room: usize, k: u32) -> (u32, u64, u64);
     fn dots(&self, resolution: Resolution) -> Option<f64>;
+    /// Number and length.
+    fn write_table(&self, table: &[u32], destination: &mut [u8]) -> (u32, u64);
+    /// Number and entry count.
+    fn read_table(&self, file: &[u8], table: &mut [u32]) -> (u32, u64);
 }
 
 /// The independent implementation.
@@ -133,5 +137,13 @@ impl Library for Reference {
 
     fn dots(&self, resolution: Resolution) -> Option<f64> {
         resolution.dots_per_centimetre()
+    }
+
+    fn write_table(&self, table: &[u32], destination: &mut [u8]) -> (u32, u64) {
+        saved::write_table(table, destination)
+    }
+
+    fn read_table(&self, file: &[u8], table: &mut [u32]) -> (u32, u64) {
+        saved::read_table(file, table)
     }
 }

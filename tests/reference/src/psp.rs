@@ -1,6 +1,6 @@
-//! Document 01 with requests (i), (vi) and (vii) of document 02, written from
+//! Document 01 with requests (i), (iv), (vi) and (vii) of document 02, written from
 //! their text: the listing of a Paint Shop Pro 3.0 file, the plane reader, the packer,
-//! the canvas and the views.
+//! the canvas, the views and the saved table.
 //!
 //! Nothing here aims at speed or at a small memory. Every function returns an
 //! answer for every input; sums that a file can make large are done in 64 bits.
@@ -12,10 +12,11 @@ mod parents;
 pub mod planes;
 pub mod program;
 pub mod rectangle;
+pub mod saved;
 pub mod views;
 
-/// The answer numbers, with the names of document 01's table; the last two are
-/// those of the views that request (vii) adds.
+/// The answer numbers, with the names of document 01's table; behind them those
+/// of the views that request (vii) adds, and of the saved table, request (iv).
 pub mod number {
     pub const ACCEPTED: u32 = 0;
     pub const INPUT_OVER_LIMIT: u32 = 1;
@@ -52,6 +53,13 @@ pub mod number {
     pub const NO_SUCH_LAYER: u32 = 45;
     pub const NO_SELECTION: u32 = 46;
     pub const NO_SUCH_ALPHA: u32 = 47;
+
+    /// Under nine bytes, or not as long as it says; when writing, longer than
+    /// four bytes can say.
+    pub const SAVED_LENGTH_WRONG: u32 = 70;
+    pub const SAVED_VERSION_UNKNOWN: u32 = 71;
+    pub const SAVED_COUNT_WRONG: u32 = 72;
+    pub const SAVED_NO_ROOM: u32 = 73;
 }
 
 pub const INPUT_LIMIT: u64 = 67_108_864;

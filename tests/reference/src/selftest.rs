@@ -8,6 +8,7 @@ mod known;
 mod listing;
 mod named;
 mod planes;
+mod saved;
 mod views;
 mod worked;
 
@@ -33,6 +34,7 @@ pub fn report() -> bool {
     alphas::all(&mut checks);
     let compared = cases::systematic();
     named::all(&mut checks, &compared);
+    saved::all(&mut checks, &compared);
     generator::all(&mut checks, &compared);
     for name in &checks.failed {
         println!("failed: {}", name);

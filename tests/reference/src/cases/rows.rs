@@ -1,9 +1,10 @@
 //! Document 01's worked values, and each answer of the plane reader, the
 //! packer and the placing on the smallest of inputs, with resolutions and
-//! shared pixels beside them, and the views of selections and alpha channels.
-//! Each has the beginning of its line, worked out by hand, to which the checks of
-//! this program hold the reference.
+//! shared pixels beside them, the views of selections and alpha channels, and
+//! saved tables. Each has the beginning of its line, worked out by hand, to which
+//! the checks of this program hold the reference.
 
+use super::saved;
 use crate::case::{Case, Placing, Stored};
 use crate::psp::rectangle::Rectangle;
 use crate::samples;
@@ -23,6 +24,8 @@ pub fn rows() -> Vec<(Case, &'static str)> {
     dots(&mut rows);
     selections(&mut rows);
     alphas(&mut rows);
+    tables(&mut rows);
+    files(&mut rows);
     rows
 }
 
@@ -247,4 +250,54 @@ fn alphas(rows: &mut Rows) {
         "A 2 0 0 0 0 0 0 0 0 0 0 3869364677",
         "M 2 0 0 2 2166136261",
     );
+}
+
+/// A table of one entry and one number more, and one of thirteen numbers.
+fn tables(rows: &mut Rows) {
+    let mut push = |numbers, destination, line| {
+        let table: Vec<u32> = (1..=numbers).collect();
+        rows.push((saved::written(&table, destination), line));
+    };
+    push(15, 65, "W 0 65");
+    push(15, 66, "W 0 65");
+    push(15, 64, "W 73 0");
+    push(13, 9, "W 0 9");
+    push(13, 8, "W 73 0");
+    push(0, 9, "W 0 9");
+    push(0, 0, "W 73 0");
+}
+
+/// The file of an entry of the numbers 1 to 14.
+#[rustfmt::skip] // the head, then the entry
+pub const SAVED: [u8; 65] = [
+    0, 0, 0, 61, 1, 0, 0, 0, 1,
+    0, 0, 0, 1, 0, 0, 0, 2, 0, 0, 0, 3, 0, 0, 0, 4, 0, 0, 0, 5, 0, 0, 0, 6, 0, 0, 0, 7,
+    0, 0, 0, 8, 0, 0, 0, 9, 0, 0, 0, 10, 0, 0, 0, 11, 0, 0, 0, 12, 0, 0, 0, 13, 0, 0, 0, 14,
+];
+
+/// That file, as it is and with the bytes before its entry changed, in rooms for
+/// one entry and for none; then files without an entry. Each refusal, in the order
+/// of the tests.
+fn files(rows: &mut Rows) {
+    let mut push = |head: [u8; 9], numbers, line| {
+        let mut file = SAVED;
+        file[..9].copy_from_slice(&head);
+        rows.push((saved::read(&file, numbers), line));
+    };
+    push([0, 0, 0, 61, 1, 0, 0, 0, 1], 14, "R 0 1");
+    push([0, 0, 0, 61, 1, 0, 0, 0, 1], 27, "R 0 1");
+    push([0, 0, 0, 61, 1, 0, 0, 0, 1], 13, "R 73 0");
+    push([0, 0, 0, 61, 1, 0, 0, 0, 2], 13, "R 72 0");
+    push([0, 0, 0, 61, 1, 32, 0, 0, 1], 14, "R 72 0");
+    push([0, 0, 0, 61, 2, 0, 0, 0, 2], 13, "R 71 0");
+    push([0, 0, 0, 61, 0, 0, 0, 0, 1], 14, "R 71 0");
+    push([0, 0, 0, 65, 2, 0, 0, 0, 2], 13, "R 70 0");
+    push([61, 0, 0, 0, 1, 0, 0, 0, 1], 14, "R 70 0");
+    push([0, 0, 0, 5, 1, 0, 0, 0, 0], 14, "R 70 0");
+    let mut short = |file: &[u8], line| rows.push((saved::read(file, 0), line));
+    short(&[0, 0, 0, 5, 1, 0, 0, 0, 0], "R 0 0");
+    short(&[0, 0, 0, 5, 1, 0, 0, 0, 1], "R 72 0");
+    short(&[0, 0, 0, 6, 1, 0, 0, 0, 0, 0], "R 72 0");
+    short(&[0, 0, 0, 4, 1, 0, 0, 0], "R 70 0");
+    short(&[], "R 70 0");
 }

@@ -6,11 +6,12 @@ use crate::answers::answer;
 use crate::case::{Case, DESTINATION_LIMIT, PAYLOAD_LIMIT, ROOM_LIMIT};
 use crate::cases;
 use crate::library::Reference;
+use crate::psp::listing::ENTRY_NUMBERS;
 use crate::random::Random;
 
 pub fn all(checks: &mut Checks, systematic: &[Case]) {
-    let few_enough = systematic.len() <= 100_000;
-    checks.that("200,000 cases hold all systematic ones", few_enough);
+    let few_enough = systematic.len() <= 103_000;
+    checks.that("206,000 cases hold all systematic ones", few_enough);
     let family = || cases::family(&mut Random::new(7), 20);
     checks.that("the same family again", family() == family());
     edges(checks);
@@ -69,6 +70,8 @@ fn one(checks: &mut Checks, case: &Case) {
 
 /// Room, input and buffer that a case asks for.
 fn sizes(case: &Case) -> (u32, usize, u32) {
+    // The longest table, of 7,181 numbers, has one too few for another entry.
+    let entries = |numbers| (numbers / ENTRY_NUMBERS) as u32;
     match case {
         Case::Listing { room, input }
         | Case::Count { room, input }
@@ -90,5 +93,10 @@ fn sizes(case: &Case) -> (u32, usize, u32) {
         Case::Pack { destination, plane } => (0, plane.len(), *destination),
         Case::Canvas { canvas, .. } => (0, 0, canvas.len() as u32),
         Case::Intersection { .. } | Case::Dots { .. } => (0, 0, 0),
+        Case::WriteTable {
+            destination,
+            numbers,
+        } => (entries(numbers.len() / 4), numbers.len(), *destination),
+        Case::ReadTable { numbers, file } => (entries(*numbers as usize), file.len(), 0),
     }
 }

@@ -69,7 +69,7 @@ fn records_and_counts(checks: &mut Checks) {
     checks.equal(
         "records",
         line(57 * 14, 57),
-        format!("R 0 {} 57", eleven.len()),
+        format!("E 0 {} 57", eleven.len()),
     );
     checks.equal("few records", line(57 * 14, 3), line(3 * 14 + 13, 57));
     let counted = count(&Reference, usize::MAX, &eleven).line;

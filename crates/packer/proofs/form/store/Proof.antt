@@ -9,7 +9,8 @@ use Rattle.packet.specs.declared.Packet.{Packet}
 use Rattle.laws.specs.Lists.{over}
 use Rattle.packet.specs.Stream.{sizeOf, countOf}
 use Rattle.packer.specs.Packing.{storedAs}
-use Rattle.packer.proofs.Packing.{over-two, stored-literals}
+use Rattle.laws.proofs.Over.{over-two}
+use Rattle.packer.proofs.Packing.{stored-literals}
 use Rattle.packer.proofs.form.store.Statement.{statement}
 use Rattle.packer.proofs.form.store.Tie as tie
 

@@ -1,0 +1,178 @@
+-- One table has one file, and one file one table: of any two functions that leave what `writes` and `reads` say, so of `write_table` and
+-- `read_table`, by their contracts.
+use mathlib.Core.Path.{_≡_, refl, sym, ap, ap₂, _∙_}
+use mathlib.Core.List.{List, _++_}
+use mathlib.Core.Logic.{_⊎_, inl, inr}
+use Prim.Native.Nat.{ℕ, _+_, _-_, _*_, _≤_, _<_}
+use native.Mathlib.Omega.{arith}
+use borrow.Author.Tests.{eqb-true, eqb-false}
+use denote.Ref.{now}
+use lib.Dec.{eqb}
+use lib.ListN.{length, take, drop}
+use lib.Seq.{take-at}
+use Rattle.laws.specs.Lists.{over}
+use Rattle.laws.specs.Outcomes.{Call}
+use Rattle.laws.specs.Results.{Result}
+use Rattle.laws.proofs.OneOutcome.{call-is}
+use Rattle.laws.proofs.Over.{over-front}
+use Rattle.laws.proofs.Tests.{yes-or-no, less-or-not}
+use Rattle.endian.proofs.Turned.{big-small}
+use Rattle.entry.specs.Entry.{size}
+use Rattle.saved.specs.declared.writer.Saved.{Saved}
+use Rattle.saved.specs.declared.writer.WriteAnswer.the-variants.{Whole as Saves}
+use Rattle.saved.specs.declared.reader.ReadAnswer.the-variants.{Whole as Restores}
+use Rattle.saved.specs.declared.reader.Restored.{Restored}
+use Rattle.saved.specs.Saved.{entriesIn, numbersIn, version, saved, writeResult, writes, lengthSaid, versionSaid, countSaid, entriesOf, readResult, reads}
+use Rattle.saved.specs.Kept.{Bytes, Numbers, largest, fileIn, foundIn, Keeps}
+use Rattle.saved.proofs.Form.{saved-length, numbers-at-length}
+use Rattle.saved.proofs.Tests.{write-over-long, write-no-room, write-whole, read-short, read-other-length, read-other-version, read-other-count, SavedTable, read-no-room, read-whole}
+use Rattle.saved.proofs.Back.{saved-count-said, saved-entries-said, is-saved-table, found-count, saved-again}
+use Rattle.saved.proofs.writer.write_table.Reads as write
+use Rattle.saved.proofs.reader.read_table.Reads as read
+
+-- ### What 0 tells
+
+-- of writing: the length fits, and there was room
+module _ (table dest : List ℕ) (good : writes table dest .told .number ≡ 0) where
+  not-written : {X : Type 0} (w : Result Saved) → 0 < w .told .number → writes table dest ≡ w → X
+  not-written w some e = absurd (omega (arith, some, ap (λ (v : Result Saved). v .told .number) e, good))
+
+  wrote-fits : entriesIn table ≤ largest
+  wrote-fits = by (less-or-not largest (entriesIn table))
+    where
+      by : (largest < entriesIn table) ⊎ (entriesIn table ≤ largest) → entriesIn table ≤ largest
+      by (inl over) = not-written _ (omega arith) (write-over-long table dest over)
+      by (inr fits) = fits
+
+  wrote-room : 9 + 56 * entriesIn table ≤ length dest
+  wrote-room = by (less-or-not (length dest) (9 + 56 * entriesIn table))
+    where
+      by : (length dest < 9 + 56 * entriesIn table) ⊎ (9 + 56 * entriesIn table ≤ length dest) → 9 + 56 * entriesIn table ≤ length dest
+      by (inl short) = not-written _ (omega arith) (write-no-room table dest wrote-fits short)
+      by (inr room) = room
+
+  wrote-file : fileIn (writes table dest) ≡ saved table
+  wrote-file =
+      ap fileIn (write-whole table dest wrote-fits wrote-room)
+      ∙ ap (take (9 + 56 * entriesIn table)) (over-front dest (saved table) (9 + 56 * entriesIn table) (saved-length table))
+      ∙ take-at (saved table) (drop (9 + 56 * entriesIn table) dest) (9 + 56 * entriesIn table) (saved-length table)
+
+-- of reading: the file passes the tests, and there was room
+module _ (file room : List ℕ) (good : reads file room .told .number ≡ 0) where
+  not-read : {X : Type 0} (r : Result Restored) → 0 < r .told .number → reads file room ≡ r → X
+  not-read r some e = absurd (omega (arith, some, ap (λ (q : Result Restored). q .told .number) e, good))
+
+  read-saved : SavedTable file
+  read-saved = by (less-or-not (length file) 9)
+    where
+      by : (length file < 9) ⊎ (9 ≤ length file) → SavedTable file
+      by (inl short) = not-read _ (omega arith) (read-short file room short)
+      by (inr nine) =
+          yes-or-no (eqb (lengthSaid file) (length file - 4))
+          (λ l.
+          let length-is = eqb-true _ _ l in
+          yes-or-no (eqb (versionSaid file) version)
+          (λ v.
+          let version-is = eqb-true _ _ v in
+          yes-or-no (eqb (lengthSaid file) (5 + 56 * countSaid file))
+          (λ c. record { nine = nine; length-is = length-is; version-is = version-is; count-is = eqb-true _ _ c })
+          (λ c. not-read _ (omega arith) (read-other-count file room nine length-is version-is (eqb-false _ _ c))))
+          (λ v. not-read _ (omega arith) (read-other-version file room nine length-is (eqb-false _ _ v))))
+          (λ l. not-read _ (omega arith) (read-other-length file room nine (eqb-false _ _ l)))
+
+  read-room : countSaid file ≤ entriesIn room
+  read-room = by (less-or-not (entriesIn room) (countSaid file))
+    where
+      by : (entriesIn room < countSaid file) ⊎ (countSaid file ≤ entriesIn room) → countSaid file ≤ entriesIn room
+      by (inl full) = not-read _ (omega arith) (read-no-room file room read-saved full)
+      by (inr space) = space
+
+  read-found : foundIn (reads file room) ≡ entriesOf file (countSaid file)
+  read-found =
+      ap foundIn (read-whole file room read-saved read-room)
+      ∙ take-at (entriesOf file (countSaid file)) (drop (size * countSaid file) room) (size * countSaid file) (numbers-at-length (size * countSaid file) file 9)
+
+-- ### Reading what was written, and writing what was read
+
+reads-back :
+    (table room : List ℕ) → Numbers table → entriesIn table ≤ largest → entriesIn table ≤ entriesIn room
+    → reads (saved table) room ≡ readResult (Restores (entriesIn table)) (numbersIn table ++ drop (size * entriesIn table) room)
+reads-back table room numbers fits space =
+    let count = saved-count-said table numbers fits in
+    read-whole (saved table) room (is-saved-table table numbers fits) (omega (arith, count))
+    ∙ ap (λ (n : ℕ). readResult (Restores n) (entriesOf (saved table) n ++ drop (size * n) room)) count
+    ∙ ap (λ (l : List ℕ). readResult (Restores (entriesIn table)) (l ++ drop (size * entriesIn table) room)) (saved-entries-said table numbers fits)
+
+writes-again :
+    (file dest : List ℕ) → Bytes file → SavedTable file → length file ≤ length dest
+    → writes (entriesOf file (countSaid file)) dest ≡ writeResult (Saves (length file)) (file ++ drop (length file) dest)
+writes-again file dest bytes s space =
+    let found = entriesOf file (countSaid file) in
+    let count = found-count file bytes s in
+    let fits : entriesIn found ≤ largest = omega (arith, count, s .count-is, big-small 4 file 0 bytes) in
+    let long : 9 + 56 * entriesIn found ≡ length file = omega (arith, count, s .nine, s .length-is, s .count-is) in
+    write-whole found dest fits (omega arith)
+    ∙ ap₂ (λ (n : ℕ) (l : List ℕ). writeResult (Saves n) (over dest 0 l)) long (saved-again file bytes s)
+    ∙ ap (writeResult (Saves (length file))) (over-front dest file (length file) refl)
+
+-- ### Of any two functions that leave what the definitions say
+
+module _ {Writes : List ℕ → List ℕ → Result Saved → Type 0} {Reads : List ℕ → List ℕ → Result Restored → Type 0}
+    (wrote : (t d : List ℕ) (w : Result Saved) → Writes t d w → w ≡ writes t d)
+    (restored : (f t : List ℕ) (r : Result Restored) → Reads f t r → r ≡ reads f t) where
+  module _ (t d : List ℕ) (w : Result Saved) (p : Writes t d w) (zero : w .told .number ≡ 0) where
+    good-write : writes t d .told .number ≡ 0
+    good-write = sym (ap (λ (v : Result Saved). v .told .number) (wrote t d w p)) ∙ zero
+
+    file-is : fileIn w ≡ saved t
+    file-is = ap fileIn (wrote t d w p) ∙ wrote-file t d good-write
+
+    entries-are : Numbers t → entriesOf (fileIn w) (countSaid (fileIn w)) ≡ numbersIn t
+    entries-are numbers =
+        let fits = wrote-fits t d good-write in
+        ap (λ (f : List ℕ). entriesOf f (countSaid f)) file-is
+        ∙ ap (entriesOf (saved t)) (saved-count-said t numbers fits)
+        ∙ saved-entries-said t numbers fits
+
+  module _ (f t : List ℕ) (r : Result Restored) (p : Reads f t r) (zero : r .told .number ≡ 0) where
+    good-read : reads f t .told .number ≡ 0
+    good-read = sym (ap (λ (q : Result Restored). q .told .number) (restored f t r p)) ∙ zero
+
+    found-is : foundIn r ≡ entriesOf f (countSaid f)
+    found-is = ap foundIn (restored f t r p) ∙ read-found f t good-read
+
+    file-again : Bytes f → saved (foundIn r) ≡ f
+    file-again bytes = ap saved found-is ∙ saved-again f bytes (read-saved f t good-read)
+
+  pub keeps : Keeps Writes Reads
+  keeps = record {
+    back = λ table dest room w r numbers p zero q space.
+        restored (fileIn w) room r q
+        ∙ ap (λ (f : List ℕ). reads f room) (file-is table dest w p zero)
+        ∙ reads-back table room numbers (wrote-fits table dest (good-write table dest w p zero)) space;
+    again = λ file room dest r w bytes q zero p space.
+        wrote (foundIn r) dest w p
+        ∙ ap (λ (l : List ℕ). writes l dest) (found-is file room r q zero)
+        ∙ writes-again file dest bytes (read-saved file room (good-read file room r q zero)) space;
+    one-file = λ f g room room′ r s bytes bytes′ p zero q zero′ same.
+        sym (file-again f room r p zero bytes) ∙ ap saved same ∙ file-again g room′ s q zero′ bytes′;
+    one-table = λ t u dest dest′ v w numbers numbers′ p zero q zero′ same.
+        sym (entries-are t dest v p zero numbers)
+        ∙ ap (λ (f : List ℕ). entriesOf f (countSaid f)) same
+        ∙ entries-are u dest′ w q zero′ numbers′;
+    fits = λ table dest w p fits room.
+        wrote table dest w p
+        ∙ write-whole table dest fits room
+        ∙ ap (writeResult (Saves (9 + 56 * entriesIn table))) (over-front dest (saved table) (9 + 56 * entriesIn table) (saved-length table));
+    short = λ table dest w p fits short. wrote table dest w p ∙ write-no-room table dest fits short;
+    over-long = λ table dest w p over. wrote table dest w p ∙ write-over-long table dest over;
+  }
+
+-- ### Of the two functions
+
+pub table-keeps :
+    Keeps
+    (λ t d. Call {Given = List ℕ × List ℕ} (λ l a. (now (a .0), now (a .1 .0))) (λ l y e. writeResult y (now (e .1 .0))) write.Learnt (t, d))
+    (λ f t. Call {Given = List ℕ × List ℕ} (λ l a. (now (a .0), now (a .1 .0))) (λ l y e. readResult y (now (e .1 .0))) read.Learnt (f, t))
+table-keeps =
+    keeps (λ t d w. call-is (λ g. writes (g .0) (g .1)) (λ l a y e h. h)) (λ f t r. call-is (λ g. reads (g .0) (g .1)) (λ l a y e h. h))

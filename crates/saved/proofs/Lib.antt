@@ -1,0 +1,6 @@
+-- Laws of saved tables: the form of the file, the tests of writing and reading in their order, the way back, one outcome.
+pub mod Form
+pub mod Tests
+pub mod Back
+pub mod Keeps
+pub mod Answers

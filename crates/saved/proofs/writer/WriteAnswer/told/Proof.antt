@@ -1,0 +1,17 @@
+-- `saved::WriteAnswer::told` meets its contract, for each answer.
+use mathlib.Core.Path.{sym, ap}
+use borrow.Author.Needs.{needs}
+use Rattle.saved.specs.Saved.{writePaper}
+use Rattle.saved.proofs.writer.WriteAnswer.told.Statement.{statement}
+use Rattle.saved.proofs.writer.WriteAnswer.told.Tie as tie
+
+pub told-spec : {M : Type 1} → statement M
+told-spec =
+    tie.close
+    (tie.spec
+    (λ c. search needs)
+    (λ c. search needs)
+    (λ c. search needs)
+    (λ c. sym (ap writePaper (c .before .self .given .1)))
+    (λ c. sym (ap writePaper (c .enum-told .given .1)))
+    (λ c. sym (ap writePaper (c .enum-told2 .given .1))))

@@ -1,0 +1,19 @@
+// The saved form of a table (document 02, request iv): a job that is opened again needs no artwork for its table. Length of all that follows,
+// version, entry count, and fourteen numbers an entry. The caller lends every buffer, and none is touched unless all is well. Neither
+// function has a `requires`.
+pub mod reader;
+pub mod writer;
+
+pub use reader::read_table;
+pub use writer::write_table;
+
+// The version of the form.
+const VERSION: u8 = 1;
+
+// The bytes in front of the entries, and how many of them the length counts: it does not count itself.
+const HEAD: usize = 9;
+
+const COUNTED: usize = 5;
+
+// The bytes of an entry.
+const ENTRY: usize = 56;
