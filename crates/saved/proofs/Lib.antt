@@ -1,6 +1,7 @@
--- Laws of saved tables: the form of the file, the tests of writing and reading in their order, the way back, one outcome.
+-- Laws of saved tables: the form of the file, the tests of writing and reading in their order, the way back, one outcome, a worked file.
 pub mod Form
 pub mod Tests
 pub mod Back
 pub mod Keeps
 pub mod Answers
+pub mod Worked

@@ -92,7 +92,8 @@ readPaper read.NoRoom = record { number = 73; count = 0 }
 abbrev pub readResult : ReadAnswer → List ℕ → Result Restored
 readResult answer table = record { told = readPaper answer; dest = table }
 
--- what `read_table` leaves: the entries in front, and the rest of the table unchanged
+-- what `read_table` leaves: the entries in front, and the rest of the table unchanged. A length counts version and count, five bytes, and 56
+-- an entry
 unfoldable pub reads : List ℕ → List ℕ → Result Restored
 reads file table =
     pick (ltb (length file) 9 || not (eqb (lengthSaid file) (length file - 4))) (readResult read.WrongLength table)

@@ -1,6 +1,5 @@
-// The saved form of a table (document 02, request iv): a job that is opened again needs no artwork for its table. Length of all that follows,
-// version, entry count, and fourteen numbers an entry. The caller lends every buffer, and none is touched unless all is well. Neither
-// function has a `requires`.
+// The saved form of a table (document 02, request iv), for a job that is opened without its artwork: a length, a version, a count, and the
+// numbers of each entry. The caller lends every buffer, and none is touched unless all is well. Neither function has a `requires`.
 pub mod reader;
 pub mod writer;
 

@@ -15,11 +15,11 @@ ghost use Rattle.saved.specs.Saved.{numbersAt, readPaper, readResult, re
 pub enum ReadAnswer {
     // 0: the entries are in the table
     Whole { count: usize },
-    // 70: under nine bytes, or a length that is not that of all that follows
+    // 70: fewer than nine bytes, or a length that is not the file's
     WrongLength,
     // 71: another version
     WrongVersion,
-    // 72: a count that does not agree with the length
+    // 72: a count that is not the length's
     WrongCount,
     // 73: the table has room for fewer entries
     NoRoom,
@@ -70,8 +70,8 @@ fn get_numbers(file: &[u8], at: usize, table: &mut [u32], numbers: usize)
     }
 }
 
-// Reads a saved table into the front of a table, which keeps the rest. 70: a file under nine bytes, or with a wrong length. 71: another version.
-// 72: a count that does not agree with the length. 73: the table has room for fewer entries. All four leave the table untouched.
+// Reads a saved table into the front of a table, which keeps the rest. 70: fewer than nine bytes, or a length that is not the file's. 71: another
+// version. 72: a count that is not the length's. 73: the table has room for fewer entries. All four leave the table untouched.
 pub fn read_table(file: &[u8], table: &mut [u32]) -> ReadAnswer
     ensures { λ r. ⌜ readResult r (now (table .exit)) ≡ reads (now (file .entry)) (now (table .entry)) ⌝ }
 {

@@ -27,6 +27,7 @@ use library::Reference;
 
 const USAGE: &str = "\
 reference cases SEED COUNT > cases        writes the first COUNT cases of a seed
+reference cases SEED COUNT FROM > cases   the same from one of them on, counted from 0
 reference many > cases                    writes cases of very many blocks
 reference answers < cases                 prints the expected answer lines
 reference compare SEED COUNT < answers    compares another program's lines with the expected ones
@@ -56,11 +57,12 @@ fn main() {
 /// False if something was found to differ or to fail.
 fn run(words: &[&str]) -> io::Result<bool> {
     match *words {
-        ["cases", seed, count] => write_cases(number(seed)?, number(count)?),
+        ["cases", seed, count] => write_cases(number(seed)?, 0, number(count)?),
+        ["cases", seed, count, from] => write_cases(number(seed)?, number(from)?, number(count)?),
         ["many"] => write_many(),
         ["answers"] => print_answers(),
         ["compare", seed, count] => compare(number(seed)?, number(count)?),
-        ["pick", seed, index] => pick(number(seed)?, number(index)?),
+        ["pick", seed, index] => write_cases(number(seed)?, number(index)?, 1),
         ["file", name] => write_sample(name),
         ["list"] => print_listing(),
         ["genuine", seed, folder] => genuine::write(number(seed)?, folder),
@@ -83,9 +85,17 @@ fn output() -> BufWriter<io::Stdout> {
     BufWriter::with_capacity(1 << 20, io::stdout())
 }
 
-fn write_cases(seed: u64, count: u64) -> io::Result<bool> {
+/// So many cases behind the first ones, which are made and left out.
+fn write_cases(seed: u64, first: u64, count: u64) -> io::Result<bool> {
     let mut output = output();
-    cases::generate(seed, count, |case| case.write(&mut output))?;
+    let mut made = 0;
+    cases::generate(seed, first.saturating_add(count), |case| {
+        made += 1;
+        if made <= first {
+            return Ok(());
+        }
+        case.write(&mut output)
+    })?;
     output.flush()?;
     Ok(true)
 }
@@ -117,18 +127,6 @@ fn compare(seed: u64, count: u64) -> io::Result<bool> {
     cases::generate(seed, count, |case| comparison.read(case, &mut answers))?;
     comparison.end(&mut answers)?;
     comparison.finish(&LONGER_THAN_A_CASE)
-}
-
-fn pick(seed: u64, index: u64) -> io::Result<bool> {
-    let mut last = None;
-    cases::generate(seed, index.saturating_add(1), |case| {
-        last = Some(case.clone());
-        Ok(())
-    })?;
-    if let Some(case) = last {
-        case.write(&mut io::stdout())?;
-    }
-    Ok(true)
 }
 
 fn write_sample(name: &str) -> io::Result<bool> {
