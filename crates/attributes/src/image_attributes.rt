@@ -13,7 +13,7 @@ ghost use Rattle.attributes.specs.ImageAttributes.{imageOf, imageAt, isS
 pub struct ImageChunk {
     pub width: i32,
     pub height: i32,
-    // The 64 bits of the resolution's value: a NaN's payload does not travel in an f64, and with metric 0 any bits pass.
+    // The 64 bits of the resolution's value: a NaN's payload does not travel in an f64, and metric 0 permits one.
     pub bits: u64,
     pub resolution: Resolution,
     pub compression: u16,

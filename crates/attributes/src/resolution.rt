@@ -38,7 +38,7 @@ impl Resolution {
         }
     }
 
-    // With metric 0 any bits pass; otherwise the value is finite and above 0.
+    // Metric 0 asks nothing of the value; the others want it finite and above 0.
     pub fn permitted(self) -> bool
         ensures { λ r. ⌜ r ≡ isResolution self ⌝ }
     {

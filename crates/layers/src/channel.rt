@@ -22,7 +22,7 @@ ghost use Rattle.layers.specs.Layers.{isAwaited, channelEntry, channelSi
 
 const HEAD: usize = BlockHeader::SIZE + ChannelChunk::SIZE;
 
-// Expected by what holds it, in an image of this depth, and none twice in a layer.
+// Expected by what holds it, in an image of this depth, and not there yet.
 fn awaited(st: State, parent: Parent, c: ChannelChunk) -> bool
     ensures { λ r. ⌜ r ≡ isAwaited st parent c ⌝ }
 {

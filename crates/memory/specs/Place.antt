@@ -10,7 +10,7 @@ use Rattle.memory.specs.declared.places.Placing.the-variants.{Refuse, En
 use Rattle.memory.specs.declared.state.State.{State}
 use Rattle.memory.specs.Parent.{isMain}
 
--- at the main level 0, 2, 3, 6 and 7 are entered, 4, 5 and 8 never stand, and the other ids are skipped; a bank holds layers, an alpha bank
+-- at the main level 0, 2, 3, 6 and 7 are entered, no 4, 5 or 8 may stand, and the other ids are skipped; a bank holds layers, an alpha bank
 -- alpha channels, and a layer, a selection and an alpha channel hold channels
 unfoldable pub gridOf : ℕ → Parent → Placing
 gridOf id Main =

@@ -8,7 +8,7 @@ use native.Mathlib.Omega.{arith}
 use lib.ListN.{length, take, set, getD, length-append}
 use lib.Seq.{take-suc, length-take-le}
 use Rattle.laws.specs.Lists.{over}
-use Rattle.laws.proofs.Over.{over-length, over-one, over-over}
+use Rattle.laws.proofs.Over.{over-length, over-none, over-one, over-over}
 use Rattle.laws.proofs.Stored.{Stored, stored-next}
 use Rattle.endian.specs.Number.{bigAt, bigBytesOf}
 use Rattle.endian.proofs.Turned.{big-length}
@@ -45,24 +45,48 @@ in-bytes-append [] ns = refl
 in-bytes-append (m ∷ ms) ns = ap (λ (l : List ℕ). bigBytesOf 4 m ++ l) (in-bytes-append ms ns) ∙ sym (append-assoc (bigBytesOf 4 m) (inBytes ms) (inBytes ns))
 
 -- dest with the first i numbers of a table in it, of those n that have room
-module _ (table : List ℕ) (n : ℕ) (dest : List ℕ) (at i : ℕ) (inside : i ≤ n) (there : n ≤ length table) (room : at + 4 * n ≤ length dest) where
-  first-length : length (inBytes (take i table)) ≡ 4 * i
-  first-length = in-bytes-length (take i table) ∙ ap (λ (k : ℕ). 4 * k) (length-take-le i table (omega arith))
+module _ (table : List ℕ) (n : ℕ) (dest : List ℕ) (at : ℕ) where
+  pub record Put (i : ℕ) (now : List ℕ) : Type 0 where
+    pub there : n ≤ length table
+    pub room : at + 4 * n ≤ length dest
+    pub inside : i ≤ n
+    pub is : now ≡ over dest at (inBytes (take i table))
 
-  pub put-length : length (over dest at (inBytes (take i table))) ≡ length dest
-  put-length = over-length dest at (inBytes (take i table)) (omega (arith, first-length))
-
-  -- one number more
-  pub put-next :
-      i < n → over (over dest at (inBytes (take i table))) (at + 4 * i) (bigBytesOf 4 (getD table i 0)) ≡ over dest at (inBytes (take (i + 1) table))
+  pub put-first : n ≤ length table → at + 4 * n ≤ length dest → Put 0 dest
   unfolding inBytes
-  put-next more =
-      let one : List ℕ = getD table i 0 ∷ [] in
-      over-over dest at (at + 4 * i) (inBytes (take i table)) (bigBytesOf 4 (getD table i 0)) (omega (arith, first-length)) (omega (arith, big-length 4 (getD table i 0)))
-      ∙ ap (λ (l : List ℕ). over dest at (inBytes (take i table) ++ l)) (sym (append-nil (bigBytesOf 4 (getD table i 0))))
-      ∙ ap (over dest at) (sym (in-bytes-append (take i table) one))
-      ∙ ap (λ (l : List ℕ). over dest at (inBytes l)) (sym (take-suc table i 0 (omega arith)))
-      ∙ ap (λ (k : ℕ). over dest at (inBytes (take k table))) (sym (add-one i))
+  put-first there room = record { there = there; room = room; inside = omega arith; is = sym (over-none dest at) }
+
+  module _ (i : ℕ) (now : List ℕ) (p : Put i now) where
+    first-length : length (inBytes (take i table)) ≡ 4 * i
+    first-length = in-bytes-length (take i table) ∙ ap (λ (k : ℕ). 4 * k) (length-take-le i table (omega (arith, p .there, p .inside)))
+
+    pub put-length : length now ≡ length dest
+    put-length = ap length (p .is) ∙ over-length dest at (inBytes (take i table)) (omega (arith, first-length, p .inside, p .room))
+
+    -- one number more
+    pub put-next : (after : List ℕ) → i < n → after ≡ over now (at + 4 * i) (bigBytesOf 4 (getD table i 0)) → Put (i + 1) after
+    unfolding inBytes
+    put-next after more e =
+        let number = bigBytesOf 4 (getD table i 0) in
+        let before = inBytes (take i table) in
+        record {
+          there = p .there;
+          room = p .room;
+          inside = omega arith;
+          is =
+              e
+              ∙ ap (λ (l : List ℕ). over l (at + 4 * i) number) (p .is)
+              ∙ over-over dest at (at + 4 * i) before number (omega (arith, first-length)) (omega (arith, p .room, big-length 4 (getD table i 0)))
+              ∙ ap (λ (l : List ℕ). over dest at (before ++ l)) (sym (append-nil number))
+              ∙ ap (over dest at) (sym (in-bytes-append (take i table) (getD table i 0 ∷ [])))
+              ∙ ap (λ (l : List ℕ). over dest at (inBytes l)) (sym (take-suc table i 0 (omega (arith, p .there))))
+              ∙ ap (λ (k : ℕ). over dest at (inBytes (take k table))) (sym (add-one i));
+        }
+
+    pub put-last : n ≤ i → now ≡ over dest at (inBytes (take n table))
+    put-last h =
+        let all : i ≡ n = omega (arith, p .inside) in
+        p .is ∙ ap (λ (k : ℕ). over dest at (inBytes (take k table))) all
 
 -- length, version, count and numbers, each at its place, are the file
 pub file-put :

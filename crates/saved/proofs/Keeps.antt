@@ -2,12 +2,9 @@
 -- `read_table`, by their contracts.
 use mathlib.Core.Path.{_≡_, refl, sym, ap, ap₂, _∙_}
 use mathlib.Core.List.{List, _++_}
-use mathlib.Core.Logic.{_⊎_, inl, inr}
 use Prim.Native.Nat.{ℕ, _+_, _-_, _*_, _≤_, _<_}
 use native.Mathlib.Omega.{arith}
-use borrow.Author.Tests.{eqb-true, eqb-false}
 use denote.Ref.{now}
-use lib.Dec.{eqb}
 use lib.ListN.{length, take, drop}
 use lib.Seq.{take-at}
 use Rattle.laws.specs.Lists.{over}
@@ -15,7 +12,7 @@ use Rattle.laws.specs.Outcomes.{Call}
 use Rattle.laws.specs.Results.{Result}
 use Rattle.laws.proofs.OneOutcome.{call-is}
 use Rattle.laws.proofs.Over.{over-front}
-use Rattle.laws.proofs.Tests.{yes-or-no, less-or-not}
+use Rattle.laws.proofs.Tests.{not-less, not-other}
 use Rattle.endian.proofs.Turned.{big-small}
 use Rattle.entry.specs.Entry.{size}
 use Rattle.saved.specs.declared.writer.Saved.{Saved}
@@ -34,22 +31,14 @@ use Rattle.saved.proofs.reader.read_table.Reads as read
 
 -- of writing: the length fits, and there was room
 module _ (table dest : List ℕ) (good : writes table dest .told .number ≡ 0) where
-  not-written : {X : Type 0} (w : Result Saved) → 0 < w .told .number → writes table dest ≡ w → X
-  not-written w some e = absurd (omega (arith, some, ap (λ (v : Result Saved). v .told .number) e, good))
+  not-written : (w : Result Saved) → 0 < w .told .number → writes table dest ≡ w → ⊥
+  not-written w some e = omega (arith, some, ap (λ (v : Result Saved). v .told .number) e, good)
 
   wrote-fits : entriesIn table ≤ largest
-  wrote-fits = by (less-or-not largest (entriesIn table))
-    where
-      by : (largest < entriesIn table) ⊎ (entriesIn table ≤ largest) → entriesIn table ≤ largest
-      by (inl over) = not-written _ (omega arith) (write-over-long table dest over)
-      by (inr fits) = fits
+  wrote-fits = not-less largest (entriesIn table) (λ over. not-written _ (omega arith) (write-over-long table dest over))
 
   wrote-room : 9 + 56 * entriesIn table ≤ length dest
-  wrote-room = by (less-or-not (length dest) (9 + 56 * entriesIn table))
-    where
-      by : (length dest < 9 + 56 * entriesIn table) ⊎ (9 + 56 * entriesIn table ≤ length dest) → 9 + 56 * entriesIn table ≤ length dest
-      by (inl short) = not-written _ (omega arith) (write-no-room table dest wrote-fits short)
-      by (inr room) = room
+  wrote-room = not-less (length dest) (9 + 56 * entriesIn table) (λ short. not-written _ (omega arith) (write-no-room table dest wrote-fits short))
 
   wrote-file : fileIn (writes table dest) ≡ saved table
   wrote-file =
@@ -59,33 +48,25 @@ module _ (table dest : List ℕ) (good : writes table dest .told .number ≡ 0) 
 
 -- of reading: the file passes the tests, and there was room
 module _ (file room : List ℕ) (good : reads file room .told .number ≡ 0) where
-  not-read : {X : Type 0} (r : Result Restored) → 0 < r .told .number → reads file room ≡ r → X
-  not-read r some e = absurd (omega (arith, some, ap (λ (q : Result Restored). q .told .number) e, good))
+  not-read : (r : Result Restored) → 0 < r .told .number → reads file room ≡ r → ⊥
+  not-read r some e = omega (arith, some, ap (λ (q : Result Restored). q .told .number) e, good)
 
   read-saved : SavedTable file
-  read-saved = by (less-or-not (length file) 9)
-    where
-      by : (length file < 9) ⊎ (9 ≤ length file) → SavedTable file
-      by (inl short) = not-read _ (omega arith) (read-short file room short)
-      by (inr nine) =
-          yes-or-no (eqb (lengthSaid file) (length file - 4))
-          (λ l.
-          let length-is = eqb-true _ _ l in
-          yes-or-no (eqb (versionSaid file) version)
-          (λ v.
-          let version-is = eqb-true _ _ v in
-          yes-or-no (eqb (lengthSaid file) (5 + 56 * countSaid file))
-          (λ c. record { nine = nine; length-is = length-is; version-is = version-is; count-is = eqb-true _ _ c })
-          (λ c. not-read _ (omega arith) (read-other-count file room nine length-is version-is (eqb-false _ _ c))))
-          (λ v. not-read _ (omega arith) (read-other-version file room nine length-is (eqb-false _ _ v))))
-          (λ l. not-read _ (omega arith) (read-other-length file room nine (eqb-false _ _ l)))
+  read-saved =
+      let nine = not-less (length file) 9 (λ short. not-read _ (omega arith) (read-short file room short)) in
+      let length-is = not-other (lengthSaid file) (length file - 4) (λ other. not-read _ (omega arith) (read-other-length file room nine other)) in
+      let version-is = not-other (versionSaid file) version (λ other. not-read _ (omega arith) (read-other-version file room nine length-is other)) in
+      record {
+        nine = nine;
+        length-is = length-is;
+        version-is = version-is;
+        count-is =
+            not-other (lengthSaid file) (5 + 56 * countSaid file)
+            (λ other. not-read _ (omega arith) (read-other-count file room nine length-is version-is other));
+      }
 
   read-room : countSaid file ≤ entriesIn room
-  read-room = by (less-or-not (entriesIn room) (countSaid file))
-    where
-      by : (entriesIn room < countSaid file) ⊎ (countSaid file ≤ entriesIn room) → countSaid file ≤ entriesIn room
-      by (inl full) = not-read _ (omega arith) (read-no-room file room read-saved full)
-      by (inr space) = space
+  read-room = not-less (entriesIn room) (countSaid file) (λ full. not-read _ (omega arith) (read-no-room file room read-saved full))
 
   read-found : foundIn (reads file room) ≡ entriesOf file (countSaid file)
   read-found =

@@ -1,8 +1,8 @@
 -- `saved::reader::get_numbers` meets its contract. The loop's invariant: i numbers are stored.
+use mathlib.Core.Path.{_∙_}
 use Prim.Native.Nat.{_-_}
 use native.Mathlib.Omega.{arith}
 use borrow.Author.Needs.{needs}
-use mathlib.Core.Path.{_∙_}
 use Rattle.laws.proofs.Over.{over-front}
 use Rattle.laws.proofs.Stored.{Stored, stored-first, stored-length, stored-last}
 use Rattle.saved.specs.Saved.{numbersAt}
