@@ -16,12 +16,29 @@ static int stop(const char *why) {
   return 1;
 }
 
+/* Reads a file into memory that grows as the file needs it; one byte over the limit is enough to be refused. */
+static uint8_t *contents(FILE *file, size_t *length) {
+  const size_t most = (size_t)PSP_INPUT_LIMIT + 1;
+  size_t room = 65536;
+  uint8_t *bytes = malloc(room);
+  *length = 0;
+  while (bytes != NULL) {
+    *length += fread(bytes + *length, 1, room - *length, file);
+    if (*length < room || room == most) break;
+    room = room < most / 2 ? 2 * room : most;
+    uint8_t *grown = realloc(bytes, room);
+    if (grown == NULL) free(bytes);
+    bytes = grown;
+  }
+  return bytes;
+}
+
 int main(int argc, char **argv) {
   if (argc != 5) return stop("placed_plane FILE LAYER BITMAP CHANNEL");
   FILE *file = fopen(argv[1], "rb");
-  uint8_t *input = malloc(PSP_INPUT_LIMIT + 1); /* one byte over the limit is enough to be refused */
-  if (file == NULL || input == NULL) return stop("the file cannot be read");
-  size_t length = fread(input, 1, PSP_INPUT_LIMIT + 1, file);
+  size_t length;
+  uint8_t *input = file == NULL ? NULL : contents(file, &length);
+  if (input == NULL) return stop("the file cannot be read");
   fclose(file);
   uint32_t k = (uint32_t)strtoul(argv[2], NULL, 10);
   uint32_t bitmap = (uint32_t)strtoul(argv[3], NULL, 10);

@@ -1,8 +1,11 @@
 //! From a layer to a placed plane: placed_plane_rs FILE LAYER BITMAP CHANNEL. LAYER counts from 0,
 //! the bottom one; bitmap and channel are those of `psp::Entry`.
 
-use psp::{Entry, ImageChunk, Rect, Refusal, RefusedListing, RefusedPlane, ENTRY_NUMBERS};
+use psp::{Entry, ImageChunk, Rect, Refusal, RefusedListing, RefusedPlane};
+use psp::{ENTRY_NUMBERS, INPUT_LIMIT};
 use std::error::Error;
+use std::fs::File;
+use std::io::{self, Read};
 
 const CHANNEL_BLOCK: u32 = 5;
 const IMAGE: u32 = 0;
@@ -22,7 +25,7 @@ fn main() {
 
 fn run(file: &str, layer: &str, bitmap: &str, channel: &str) -> Result<(), Box<dyn Error>> {
     let (k, bitmap, channel) = (layer.parse()?, bitmap.parse()?, channel.parse()?);
-    let input = std::fs::read(file)?;
+    let input = contents(file)?;
     let entries = entries(&input)?;
 
     // Each of these lists the input again: ask once, not once a plane.
@@ -42,6 +45,14 @@ fn run(file: &str, layer: &str, bitmap: &str, channel: &str) -> Result<(), Box<d
         _ => layer.image.saved,
     };
     place(image, saved, &plane, wanted.row)
+}
+
+/// One byte over the limit is enough to be refused.
+fn contents(file: &str) -> io::Result<Vec<u8>> {
+    let mut input = Vec::new();
+    let limit = INPUT_LIMIT as u64 + 1;
+    File::open(file)?.take(limit).read_to_end(&mut input)?;
+    Ok(input)
 }
 
 /// Lists the file. The count says how much room the entries need; a refused listing has one too.

@@ -24,7 +24,7 @@ extern "C" {
 /* ---- Version ---- */
 
 #define PSP_VERSION_MAJOR 0
-#define PSP_VERSION_MINOR 6
+#define PSP_VERSION_MINOR 7
 #define PSP_VERSION_PATCH 0
 #define PSP_VERSION (PSP_VERSION_MAJOR * 10000 + PSP_VERSION_MINOR * 100 + PSP_VERSION_PATCH)
 
@@ -81,16 +81,18 @@ uint32_t psp_version(void);
 #define PSP_SAVED_VERSION 71  /* another version of a saved table */
 #define PSP_SAVED_COUNT 72    /* a count that is not the length's */
 #define PSP_SAVED_NO_ROOM 73  /* destination too short */
+#define PSP_SAVED_SIDES 74    /* a version that is not that of the sides */
 
 /* ---- Limits ---- */
 
-#define PSP_INPUT_LIMIT 67108864  /* bytes of an input */
-#define PSP_PLANE_LIMIT 16777216  /* bytes of a plane */
-#define PSP_SIDE_LIMIT 4096       /* image sides, and sides of a saved rectangle */
-#define PSP_LAYER_LIMIT 64        /* layers of an image */
-#define PSP_ENTRY_NUMBERS 14      /* numbers of an entry in a table */
-#define PSP_SAVED_HEAD 9          /* bytes of a saved table in front of its entries */
-#define PSP_SAVED_ENTRY 56        /* bytes of an entry there */
+#define PSP_INPUT_LIMIT 1073741824  /* bytes of an input */
+#define PSP_PLANE_LIMIT 900000000   /* bytes of a plane */
+#define PSP_SIDE_LIMIT 30000        /* sides of an image, of a saved rectangle and of a canvas */
+#define PSP_LAYER_LIMIT 64          /* layers of an image */
+#define PSP_ENTRY_NUMBERS 14        /* numbers of an entry in a table */
+#define PSP_SAVED_HEAD 9            /* bytes of a saved table in front of its entries */
+#define PSP_SAVED_ENTRY 56          /* bytes of an entry there */
+#define PSP_SAVED_SIDE 4096         /* the greatest width or height in a saved table of version 1 */
 
 /* ---- Listing ---- */
 
@@ -181,24 +183,29 @@ psp_rect psp_intersect(psp_rect a, psp_rect b);
 
 /* ---- Saved tables ---- */
 
-/* A saved table is a file, all of it big-endian: four bytes for the length of all that follows, one for the version, 1, four for the count
- * of entries, and four for each number of each entry, in the table's order. Its entries are not judged. */
+/* A saved table is a file, all of it big-endian: four bytes for the length of all that follows, one for the version, four for the count of
+ * entries, and four for each number of each entry, in the table's order. The version is 2 where any entry, whatever its id, has a width or
+ * height over PSP_SAVED_SIDE, and otherwise 1, as in the files that earlier versions of the library wrote; the layout is the same. Besides
+ * that its entries are not judged. */
 typedef struct psp_saved {
   uint32_t number;  /* 0, 70 or 73 */
   size_t length;    /* bytes of the file; 0 when refused */
 } psp_saved;
 
-/* Writes the whole entries of a table into dest as a file, PSP_SAVED_HEAD bytes and PSP_SAVED_ENTRY an entry (0, 70, 73). Numbers that
- * make no whole entry are not written. What follows the file is untouched, and all of dest when refused. */
+/* Writes the whole entries of a table into dest as a file, PSP_SAVED_HEAD bytes and PSP_SAVED_ENTRY an entry, of the version that their
+ * sides give it (0, 70, 73). Numbers that make no whole entry are not written. What follows the file is untouched, and all of dest when
+ * refused. */
 psp_saved psp_write_table(const uint32_t *table, size_t numbers, uint8_t *dest, size_t room);
 
 typedef struct psp_restored {
-  uint32_t number;  /* 0, or 70 to 73 */
+  uint32_t number;  /* 0, or 70 to 74 */
   size_t count;     /* entries; 0 when refused */
 } psp_restored;
 
-/* Reads a saved table back into a table of 32-bit numbers, fourteen an entry (0, 70 to 73); what psp_write_table has written gives the same
- * entries. Numbers that make no whole entry are no room. What follows the entries is untouched, and all of the table when refused. */
+/* Reads a saved table of version 1 or 2 back into a table of 32-bit numbers, fourteen an entry (0, 70 to 74); what psp_write_table has
+ * written gives the same entries. It is judged in the order 70, 71, 72, 74, 73: version 1 with a side over PSP_SAVED_SIDE is 74, and so is
+ * version 2 without one, also where it has no entries; that comes after 72 and before 73. Numbers that make no whole entry are no room. What
+ * follows the entries is untouched, and all of the table when refused. */
 psp_restored psp_read_table(const uint8_t *file, size_t length, uint32_t *table, size_t numbers);
 
 /* ---- Views of an accepted input ---- */

@@ -1,13 +1,15 @@
 //! Figures of the proved library beside its peers, in one process.
 //!
 //! `figures` prints planes, listings and views, `figures planes` the first of them, `figures reading`
-//! the reading of planes alone, `figures memory` the stack and the memory of the longest listings.
+//! the reading of planes alone, `figures memory` the stack and the memory of long listings; `figures
+//! growth` and `figures longest` print listings, and their stack and memory, up to the longest input.
 //! `figures list SIDE FILE TIMES` and `figures read READER PLANE TIMES` list and read and print
 //! nothing, so that a tool can count their instructions. Every answer is checked; a wrong one stops
 //! the program.
 
 mod clock;
 mod files;
+mod growth;
 mod listings;
 mod measure;
 mod memory;
@@ -52,10 +54,13 @@ fn main() {
         ["planes"] => planes(&Clock::open()),
         ["reading"] => reading::report(&Clock::open()),
         ["memory"] => memory::report(),
+        ["growth"] => growth::report(&Clock::open()),
+        ["longest"] => memory::longest(),
         ["list", side, file, times] => listings::repeat(side, file, times),
         ["read", reader, plane, times] => reading::repeat(reader, plane, times),
         _ => panic!(
-            "usage: figures [planes | reading | memory | list SIDE FILE TIMES | read READER PLANE TIMES]"
+            "usage: figures [planes | reading | memory | growth | longest | list SIDE FILE TIMES \
+             | read READER PLANE TIMES]"
         ),
     }
 }

@@ -60,10 +60,19 @@ pub fn counted<T>(clock: &Clock, work: impl FnOnce() -> T) -> (u64, T) {
     (clock.now() - start, result)
 }
 
-/// The costs of a number of works, each done by every side. A round does everything once, every other
-/// round backwards, so that whatever else goes on meets all alike.
+/// The costs of a number of works, each done by every side, in as many rounds as the clock wants.
 pub fn rounds<const COUNT: usize>(
     clock: &Clock,
+    works: usize,
+    cost: impl FnMut(usize, usize) -> u64,
+) -> Vec<[Spread; COUNT]> {
+    turns(clock.rounds(), works, cost)
+}
+
+/// The same in so many rounds. A round does everything once, every other round backwards, so that
+/// whatever else goes on meets all alike.
+pub fn turns<const COUNT: usize>(
+    rounds: usize,
     works: usize,
     mut cost: impl FnMut(usize, usize) -> u64,
 ) -> Vec<[Spread; COUNT]> {
@@ -71,7 +80,7 @@ pub fn rounds<const COUNT: usize>(
         .flat_map(|work| (0..COUNT).map(move |side| (work, side)))
         .collect();
     let mut seen = vec![vec![Vec::new(); COUNT]; works];
-    for _ in 0..clock.rounds() {
+    for _ in 0..rounds {
         for &(work, side) in &all {
             seen[work][side].push(cost(work, side));
         }

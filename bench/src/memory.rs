@@ -1,6 +1,7 @@
 //! The stack that a listing touches, and the memory that it takes beside the input and the table.
 
 use crate::files::{self, Among, GREY_ENTRIES};
+use crate::growth;
 use crate::listings::{MEBIBYTES, PLACES};
 use crate::sides::{Side, ENTRY_NUMBERS};
 use std::fs;
@@ -18,22 +19,42 @@ pub fn report() {
     }
 }
 
+/// Up to the longest input, of the library alone.
+pub fn longest() {
+    println!("| Empty blocks | MiB | Entries | Stack touched, KiB | Memory taken, KiB |");
+    println!("|---|--:|--:|--:|--:|");
+    for (among, name) in PLACES {
+        for mebibytes in growth::MEBIBYTES {
+            let (entries, [(stack, memory)]) = taken(among, mebibytes, [Side::Library]);
+            println!("| {name} | {mebibytes} | {entries} | {stack} | {memory} |");
+        }
+    }
+}
+
 fn row(among: Among, name: &str, mebibytes: usize) {
-    let (file, blocks) = files::with_empty_blocks(among, mebibytes << 20);
-    let entries = GREY_ENTRIES + blocks;
-    // Not zeros, so that the table's pages are there before the listing.
-    let mut table = vec![u32::MAX; entries * ENTRY_NUMBERS];
-    let mut taken = |side: Side| {
-        let before = peak_from_now();
-        assert_eq!(side.list(&file, &mut table), (0, file.len(), entries));
-        (stack(), peak() - before)
-    };
-    let library = taken(Side::Library);
-    let peer = taken(Side::Peer);
+    let (entries, [library, peer]) = taken(among, mebibytes, [Side::Library, Side::Peer]);
     println!(
         "| {name} | {mebibytes} | {entries} | {} | {} | {} | {} |",
         library.0, peer.0, library.1, peer.1
     );
+}
+
+/// The entries of a file, and what some sides take to list it, one after another: stack and memory.
+fn taken<const COUNT: usize>(
+    among: Among,
+    mebibytes: usize,
+    sides: [Side; COUNT],
+) -> (usize, [(usize, usize); COUNT]) {
+    let (file, blocks) = files::with_empty_blocks(among, mebibytes << 20);
+    let entries = GREY_ENTRIES + blocks;
+    // Not zeros, so that the table's pages are there before the listing.
+    let mut table = vec![u32::MAX; entries * ENTRY_NUMBERS];
+    let taken = sides.map(|side| {
+        let before = peak_from_now();
+        assert_eq!(side.list(&file, &mut table), (0, file.len(), entries));
+        (stack(), peak() - before)
+    });
+    (entries, taken)
 }
 
 /// KiB of the main stack that the process has touched so far.

@@ -5,7 +5,7 @@
 //! literals are copied and runs are filled whole, by the standard library, and nothing is allocated.
 
 /// The longest plane.
-pub const PLANE_LIMIT: usize = 16_777_216;
+pub const PLANE_LIMIT: usize = 900_000_000;
 
 /// A number and a place.
 pub type Refusal = (u32, usize);

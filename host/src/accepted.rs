@@ -3,6 +3,7 @@
 use crate::answer::{self, Refused};
 use crate::asked::Asked;
 use crate::blocks::{Blocks, Holding};
+use crate::buffer;
 use crate::failure::Failure;
 use crate::fields;
 use crate::holder::{Chunk, Holder, Which};
@@ -11,9 +12,12 @@ use crate::name;
 use crate::psp::ffi::{ImageChunk, ACCEPTED, ENTRY_NUMBERS, INPUT_LIMIT};
 use crate::psp::{self, Entry, Listed};
 use crate::saved;
+use crate::words;
+use crate::working::Working;
 use std::ffi::OsStr;
 use std::fs::File;
-use std::io::{self, Read};
+use std::io;
+use std::mem;
 use std::os::unix::io::AsFd;
 
 /// A view lists again without a table, so any room will do.
@@ -34,17 +38,14 @@ impl Input {
         let fail = |error: io::Error| unreadable(file, &error.to_string());
         let open = open(file).map_err(fail)?;
         let data = open.metadata().map_err(fail)?;
-        let mut bytes = Vec::new();
-        let limit = INPUT_LIMIT as u64 + 1;
-        (&open).take(limit).read_to_end(&mut bytes).map_err(fail)?;
-        // Of artwork nothing more is read; a saved table may be longer than the longest one.
-        let rest = saved::rest(&bytes);
-        open.take(rest).read_to_end(&mut bytes).map_err(fail)?;
         let identity = Identity::of_regular(&data);
+        let size = identity.map(|_| data.len());
+        let working = Working::reading(file, size);
+        let bytes = contents(&open, size, &working).map_err(fail)?;
         Ok(Input {
             bytes,
             identity,
-            size: identity.map(|_| data.len()),
+            size,
         })
     }
 
@@ -71,6 +72,27 @@ impl Input {
     }
 }
 
+/// The bytes of a file, in room for its size and one byte more where that is known: what came too
+/// late to be seen is read as well.
+fn contents(file: &File, size: Option<u64>, working: &Working) -> io::Result<Vec<u8>> {
+    let mut bytes = Vec::new();
+    let read = |bytes: &mut Vec<u8>, limit: u64| {
+        if let Some(size) = size {
+            let room = size.saturating_add(1).min(limit);
+            buffer::reserve(bytes, room.saturating_sub(bytes.len() as u64))?;
+        }
+        buffer::read_on(file, bytes, limit, |done| working.done(done))
+    };
+    let limit = INPUT_LIMIT as u64 + 1;
+    read(&mut bytes, limit)?;
+    // Of artwork nothing more is read; a saved table may be longer than the longest one.
+    match saved::rest(&bytes, size) {
+        0 => {}
+        rest => read(&mut bytes, limit.saturating_add(rest))?,
+    }
+    Ok(bytes)
+}
+
 /// Standard input as a file tells which file it is redirected from.
 fn open(file: &OsStr) -> io::Result<File> {
     if file == "-" {
@@ -90,15 +112,19 @@ pub fn unreadable(file: &OsStr, why: &str) -> Failure {
 
 /// Numbers or bytes that are all zero; a failure where memory has no room for them.
 pub fn zeros<T: Clone + Default>(length: usize) -> Result<Vec<T>, Failure> {
-    let mut zeros = Vec::new();
-    let no_memory = |_| Failure::Unreadable(format!("no memory for {} numbers", length));
-    zeros.try_reserve_exact(length).map_err(no_memory)?;
-    zeros.resize(length, T::default());
-    Ok(zeros)
+    let bytes = length.saturating_mul(mem::size_of::<T>());
+    let no_memory = |_| Failure::Unreadable(words::no_memory(bytes));
+    Vec::<T>::new()
+        .try_reserve_exact(length)
+        .map_err(no_memory)?;
+    // It has just been there. Zeros that are asked for as such take memory only where they are
+    // written, so a large canvas with a small plane takes little.
+    Ok(vec![T::default(); length])
 }
 
 /// Lists an input of any permitted size: counted first, so that the table has room for every entry.
 pub fn list(input: &[u8]) -> Result<(Listed, Vec<u32>), Failure> {
+    let _working = Working::listing(input);
     let needed = psp::count(input, ROOM).count;
     let mut table = zeros(needed.saturating_mul(ENTRY_NUMBERS))?;
     let answer = psp::list(input, &mut table);
@@ -143,6 +169,7 @@ impl Accepted {
     }
 
     pub fn image(&self) -> Result<ImageChunk, Failure> {
+        let _working = Working::listing(&self.bytes);
         let facts = psp::image_facts(&self.bytes, ROOM);
         good(facts.number, facts.image)
     }
@@ -182,6 +209,7 @@ impl Accepted {
     }
 
     fn name(&self, which: Which) -> Result<Option<&[u8]>, Failure> {
+        let _working = Working::listing(&self.bytes);
         let view = match which {
             Which::Layer(k) => psp::name(&self.bytes, ROOM, k),
             Which::Alpha(k) => psp::alpha_name(&self.bytes, ROOM, k),
@@ -191,6 +219,7 @@ impl Accepted {
     }
 
     pub fn chunk(&self, which: Which) -> Result<Chunk, Failure> {
+        let _working = Working::listing(&self.bytes);
         match which {
             Which::Layer(k) => {
                 let facts = psp::layer_facts(&self.bytes, ROOM, k);

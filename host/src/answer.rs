@@ -224,8 +224,8 @@ fn by_kind(block: Option<Block>) -> String {
 }
 
 /// The refusal of a plane: what was found, and what to do next.
-fn of_plane(number: u32) -> (&'static str, &'static str) {
-    match number {
+fn of_plane(number: u32) -> (String, &'static str) {
+    let (found, next) = match number {
         PLANE_NO_ROOM => ("the plane is longer than the room for it", "give it more"),
         PLANE_COUNT_128 => ("a packet's count is 128, which means nothing", SAVE_AGAIN),
         PLANE_DATA_MISSING => ("the packets end before the plane is full", SAVE_AGAIN),
@@ -238,25 +238,23 @@ fn of_plane(number: u32) -> (&'static str, &'static str) {
             "the raw channel is not as long as its plane",
             "save it again with run-length compression",
         ),
-        PLANE_OVER_LIMIT => (
-            "the plane has more than 16777216 bytes, the limit",
-            "save the image in smaller parts",
-        ),
+        PLANE_OVER_LIMIT => {
+            let found = format!("the plane has more than {} bytes, the limit", PLANE_LIMIT);
+            return (found, "save the image in smaller parts");
+        }
         PLANE_OUTSIDE => (
             "the stored channel does not lie inside the file",
             "fetch the file again",
         ),
         _ => UNKNOWN,
-    }
+    };
+    (found.to_string(), next)
 }
 
 /// The refusal of a canvas or a view, likewise.
-fn of_view(number: u32) -> (&'static str, &'static str) {
-    match number {
-        CANVAS_WRONG => (
-            "a side of the canvas is not 1 to 4096, or its length is not their product",
-            "give it others",
-        ),
+fn of_view(number: u32) -> (String, &'static str) {
+    let (found, next) = match number {
+        CANVAS_WRONG => return (wrong_canvas(), "give it others"),
         RECT_WRONG => (
             "the rectangle breaks a rule of coordinates, order or sides",
             "give it one that a listing has passed",
@@ -287,7 +285,15 @@ fn of_view(number: u32) -> (&'static str, &'static str) {
             "psp alphas shows those that there are",
         ),
         _ => UNKNOWN,
-    }
+    };
+    (found.to_string(), next)
+}
+
+fn wrong_canvas() -> String {
+    format!(
+        "a side of the canvas is not 1 to {}, or its length is not their product",
+        SIDE_LIMIT
+    )
 }
 
 const SAVE_AGAIN: &str = "the channel is damaged: fetch the file again, or save it again";
@@ -370,14 +376,14 @@ mod tests {
             place: 0,
             table: &[],
             input: &[],
-            size: Some(70_000_000),
+            size: Some(2_000_000_000),
         };
         holds(
             &over.sentence(),
-            &["refused: 1 at 0", " 70000000 ", " 67108864 "],
+            &["refused: 1 at 0", " 2000000000 ", " 1073741824 "],
         );
         over.size = None;
-        holds(&over.sentence(), &["more than 67108864 bytes"]);
+        holds(&over.sentence(), &["more than 1073741824 bytes"]);
     }
 
     #[test]
@@ -471,7 +477,7 @@ mod tests {
         let mut input = with_block(0);
         input.resize(36 + 52, 0);
         let sentence =
-            "refused: 8 at 50: image block, image width 151587081: it must be 1 to 4,096; \
+            "refused: 8 at 50: image block, image width 151587081: it must be 1 to 30,000; \
                         open it in Paint Shop Pro and save it again in format 3.0";
         assert_eq!(refused(8, 50, &input), sentence);
     }
@@ -488,6 +494,12 @@ mod tests {
     fn lz77_is_told_by_its_name() {
         let next = "save it again with run-length compression, or uncompressed";
         holds(&refused(11, 50, &[]), &["LZ77", next]);
+    }
+
+    #[test]
+    fn limits_are_told() {
+        holds(&refusal_inside(26, 0, 0), &["more than 900000000 bytes"]);
+        holds(&refusal(40), &["not 1 to 30000, "]);
     }
 
     #[test]

@@ -1,4 +1,4 @@
-//! The blocks of a table that are not skipped, and the channels that lie in them.
+//! The blocks of a table that hold channels, and the channels that lie in them.
 
 use crate::holder::Which;
 use crate::lines;
@@ -7,6 +7,8 @@ use crate::psp::ffi::Entry;
 /// The id of a channel.
 const CHANNEL: u32 = 5;
 
+/// Those of a table that are not skipped. Of several in a row that neither are channels nor hold any
+/// only the first is kept: it ends what lies before it, and a table may have millions of them.
 pub struct Blocks(Vec<Entry>);
 
 /// A layer, the selection or an alpha channel: its entry, and the channels in it, in file order.
@@ -19,8 +21,14 @@ pub struct Holding<'a> {
 
 impl Blocks {
     pub fn of(table: &[u32]) -> Blocks {
-        let known = lines::entries(table).filter(|entry| entry.skipped == 0);
-        Blocks(known.collect())
+        let mut blocks: Vec<Entry> = Vec::new();
+        for entry in lines::entries(table).filter(|entry| entry.skipped == 0) {
+            let ends_the_same = blocks.last().map_or(false, is_other);
+            if !(is_other(&entry) && ends_the_same) {
+                blocks.push(entry);
+            }
+        }
+        Blocks(blocks)
     }
 
     /// Layers, selection and alpha channels, in file order.
@@ -41,6 +49,11 @@ impl Blocks {
         let other = behind.iter().position(|entry| entry.id != CHANNEL);
         behind.get(..other.unwrap_or(behind.len())).unwrap_or(&[])
     }
+}
+
+/// Whether a block is neither a channel nor holds channels.
+fn is_other(entry: &Entry) -> bool {
+    entry.id != CHANNEL && Which::of(entry).is_none()
 }
 
 #[cfg(test)]
@@ -94,6 +107,17 @@ mod tests {
             (Which::Alpha(0), vec![4]),
         ];
         assert_eq!(found, expected);
+    }
+
+    #[test]
+    fn of_others_in_a_row_one_is_kept() {
+        let others = [[0, 0, 0, 0]; 9];
+        let layer = [[4, 0, 0, 0], [5, 0, 0, 2]];
+        let table = table(&[&others[..], &layer, &others, &[[5, 0, 0, 7]]].concat());
+        let blocks = Blocks::of(&table);
+        assert_eq!(blocks.0.len(), 5);
+        let lengths: Vec<_> = blocks.holdings().map(|of| of.channels.len()).collect();
+        assert_eq!(lengths, [1]);
     }
 
     #[test]

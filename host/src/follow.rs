@@ -11,6 +11,7 @@ use crate::output::{self, Progress};
 use crate::psp::ffi::{ACCEPTED, ENDS_TOO_SOON, ENTRY_NUMBERS, OVER_LIMIT, TABLE_FULL};
 use crate::psp::{self, Listed};
 use crate::saved;
+use crate::working::Working;
 use std::ffi::{OsStr, OsString};
 use std::io::Write;
 use std::thread;
@@ -103,7 +104,7 @@ impl Listing {
     fn of(input: &[u8]) -> Result<Listing, Failure> {
         let mut table = accepted::zeros(FIRST_ROOM * ENTRY_NUMBERS)?;
         let mut listing = Listing {
-            answer: psp::list(input, &mut table),
+            answer: listed(input, &mut table),
             table,
             printed: Vec::new(),
             hole: None,
@@ -127,13 +128,16 @@ impl Listing {
                 place
             ));
         }
-        self.answer = psp::list(input, &mut self.table);
+        self.answer = listed(input, &mut self.table);
         self.print(input, look)
     }
 
     /// Lists again in twice the room.
     fn enlarge(&mut self, input: &[u8]) -> Result<(), Failure> {
-        self.table = accepted::zeros(self.table.len().saturating_mul(2))?;
+        let numbers = self.table.len().saturating_mul(2);
+        // The smaller one goes first: a table may have more bytes than its file.
+        self.table = Vec::new();
+        self.table = accepted::zeros(numbers)?;
         self.again(input, Look::Grown)
     }
 
@@ -195,6 +199,11 @@ impl Listing {
             }
         }
     }
+}
+
+fn listed(input: &[u8], table: &mut [u32]) -> Listed {
+    let _working = Working::listing(input);
+    psp::list(input, table)
 }
 
 /// By the proof more input takes no entry back; were it otherwise, nobody may rely on them. Only a

@@ -1,11 +1,13 @@
 //! A file that is read while it grows.
 
 use crate::accepted;
+use crate::buffer::{self, BLOCK};
 use crate::failure::Failure;
-use crate::growth::{self, Look};
+use crate::growth::{Comparison, Look};
 use crate::identity::Identity;
 use crate::name;
 use crate::psp::ffi::INPUT_LIMIT;
+use crate::working::Working;
 use std::ffi::{OsStr, OsString};
 use std::fs::{self, File, Metadata, OpenOptions};
 use std::io::{self, Read, Seek, SeekFrom};
@@ -58,7 +60,9 @@ impl Growing {
             seen: Seen::of(&data),
             bytes: Vec::new(),
         };
-        growing.bytes = growing.rest(0)?;
+        let room = data.len().min(INPUT_LIMIT as u64) + 1;
+        buffer::reserve(&mut growing.bytes, room).map_err(fail)?;
+        growing.more()?;
         Ok(growing)
     }
 
@@ -77,31 +81,47 @@ impl Growing {
         if self.seen.length == before.length || hole.is_some() {
             return self.again(hole);
         }
-        let came = self.rest(self.bytes.len())?;
-        self.bytes.extend_from_slice(&came);
-        Ok(if came.is_empty() {
-            Look::Same
-        } else {
-            Look::Grown
+        Ok(match self.more()? {
+            true => Look::Grown,
+            false => Look::Same,
         })
     }
 
-    /// Reads the whole file again.
+    /// Reads the whole file again; what was read becomes what is there now.
     pub fn again(&mut self, hole: Option<usize>) -> Result<Look, Failure> {
         self.see()?;
-        let now = self.rest(0)?;
-        if now.len() < self.bytes.len() {
-            return Err(self.shortened());
+        let comparison = match self.compared(hole) {
+            Ok(comparison) => comparison,
+            Err(error) if error.kind() == io::ErrorKind::UnexpectedEof => {
+                return Err(self.shortened());
+            }
+            Err(error) => return Err(self.unreadable(&error)),
+        };
+        let has_grown = self.more()?;
+        Ok(comparison.look(has_grown))
+    }
+
+    /// Compares what was read with what is there, a block at a time.
+    fn compared(&mut self, hole: Option<usize>) -> io::Result<Comparison> {
+        let working = Working::reading(&self.path, Some(self.seen.length));
+        let mut file = &self.file;
+        file.seek(SeekFrom::Start(0))?;
+        let mut comparison = Comparison::with(hole);
+        let (mut place, mut now) = (0, Vec::new());
+        for before in self.bytes.chunks_mut(BLOCK) {
+            now.resize(before.len(), 0);
+            file.read_exact(&mut now)?;
+            comparison.block(place, before, &now);
+            place += before.len();
+            working.done(place as u64);
         }
-        let look = growth::look(&self.bytes, &now, hole);
-        self.bytes = now;
-        Ok(look)
+        Ok(comparison)
     }
 
     /// Looks whether the path still names the file, and how long it is.
     fn see(&mut self) -> Result<(), Failure> {
         let data = fs::metadata(&self.path);
-        let data = data.map_err(|error| accepted::unreadable(&self.path, &error.to_string()))?;
+        let data = data.map_err(|error| self.unreadable(&error))?;
         if Identity::of(&data) != self.identity || data.len() < self.bytes.len() as u64 {
             return Err(self.shortened());
         }
@@ -109,18 +129,23 @@ impl Growing {
         Ok(())
     }
 
-    /// From a place to the end, at most one byte over the limit.
-    fn rest(&self, place: usize) -> Result<Vec<u8>, Failure> {
-        let mut file = &self.file;
-        let room = (INPUT_LIMIT + 1).saturating_sub(place);
-        let mut rest = Vec::new();
+    /// Reads what stands behind the bytes that were read, up to one over the limit; whether there
+    /// was any.
+    fn more(&mut self) -> Result<bool, Failure> {
+        let before = self.bytes.len();
+        let working = Working::reading(&self.path, Some(self.seen.length));
+        let (mut file, limit) = (&self.file, INPUT_LIMIT as u64 + 1);
         let read = file
-            .seek(SeekFrom::Start(place as u64))
-            .and_then(|_| file.take(room as u64).read_to_end(&mut rest));
+            .seek(SeekFrom::Start(before as u64))
+            .and_then(|_| buffer::read_on(file, &mut self.bytes, limit, |done| working.done(done)));
         match read {
-            Ok(_) => Ok(rest),
-            Err(error) => Err(accepted::unreadable(&self.path, &error.to_string())),
+            Ok(()) => Ok(self.bytes.len() > before),
+            Err(error) => Err(self.unreadable(&error)),
         }
+    }
+
+    fn unreadable(&self, error: &io::Error) -> Failure {
+        accepted::unreadable(&self.path, &error.to_string())
     }
 
     fn shortened(&self) -> Failure {

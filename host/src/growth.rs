@@ -79,21 +79,54 @@ pub enum Look {
     Changed(usize),
 }
 
-/// Compares what was read before with what is there now, which is no shorter.
-pub fn look(before: &[u8], now: &[u8], hole: Option<usize>) -> Look {
-    if now.starts_with(before) {
-        return if now.len() == before.len() {
-            Look::Same
-        } else {
-            Look::Grown
-        };
+/// What was read before beside what is there now, block by block from the first, so that no more of
+/// the file is held twice.
+pub struct Comparison {
+    hole: Option<usize>,
+    differs: bool,
+    /// The first place that has changed and is no zero of the hole.
+    changed: Option<usize>,
+}
+
+impl Comparison {
+    /// With zeros that may be filled, from a place on.
+    pub fn with(hole: Option<usize>) -> Comparison {
+        Comparison {
+            hole,
+            differs: false,
+            changed: None,
+        }
     }
-    let start = hole.unwrap_or(usize::MAX);
-    let mut pairs = before.iter().zip(now).enumerate();
-    let changed = pairs.find(|(at, (before, now))| before != now && (*at < start || **before != 0));
-    match changed {
-        Some((at, _)) => Look::Changed(at),
-        None => Look::Filled,
+
+    /// Compares the bytes from a place on with as many that are there now, which take their place.
+    pub fn block(&mut self, place: usize, before: &mut [u8], now: &[u8]) {
+        if before == now {
+            return;
+        }
+        self.differs = true;
+        self.changed = self.changed.or_else(|| self.first(place, before, now));
+        for (before, now) in before.iter_mut().zip(now) {
+            *before = *now;
+        }
+    }
+
+    fn first(&self, place: usize, before: &[u8], now: &[u8]) -> Option<usize> {
+        let hole = self.hole.unwrap_or(usize::MAX);
+        let mut pairs = (place..).zip(before.iter().zip(now));
+        let is_changed =
+            |at: usize, before: u8, now: u8| before != now && (at < hole || before != 0);
+        let changed = pairs.find(|(at, (before, now))| is_changed(*at, **before, **now));
+        changed.map(|(at, _)| at)
+    }
+
+    /// How the file differs, when all that was read has been compared.
+    pub fn look(&self, has_grown: bool) -> Look {
+        match self.changed {
+            Some(at) => Look::Changed(at),
+            None if self.differs => Look::Filled,
+            None if has_grown => Look::Grown,
+            None => Look::Same,
+        }
     }
 }
 
@@ -213,12 +246,32 @@ mod tests {
         assert_eq!(hole(&bytes(100, 512, 9), 84), None);
     }
 
+    /// What is read again, which is no shorter: the same look by blocks of every size.
+    fn look(before: &[u8], now: &[u8], hole: Option<usize>) -> Look {
+        let mut looks = (1..=now.len()).map(|size| {
+            let mut bytes = before.to_vec();
+            let mut comparison = Comparison::with(hole);
+            for (index, before) in bytes.chunks_mut(size).enumerate() {
+                let place = index * size;
+                let now = &now[place..place + before.len()];
+                comparison.block(place, before, now);
+            }
+            assert_eq!(bytes, now[..before.len()]);
+            comparison.look(now.len() > before.len())
+        });
+        let first = looks.next().expect("a block");
+        assert!(looks.all(|look| look == first));
+        first
+    }
+
     #[test]
     fn what_has_changed_is_found_at_its_first_place() {
         assert_eq!(look(b"abc", b"abc", None), Look::Same);
         assert_eq!(look(b"abc", b"abcd", None), Look::Grown);
         assert_eq!(look(b"abc", b"aXX", None), Look::Changed(1));
         assert_eq!(look(b"a\0\0", b"aX\0d", None), Look::Changed(1));
+        assert_eq!(look(b"", b"abc", None), Look::Grown);
+        assert_eq!(look(b"abcdef", b"aXcdeX", None), Look::Changed(1));
     }
 
     #[test]
@@ -228,6 +281,7 @@ mod tests {
         assert_eq!(look(b"a\0\0\0", b"Xb\0c", Some(1)), Look::Changed(0));
         assert_eq!(look(b"\0a\0\0", b"XabX", Some(2)), Look::Changed(0));
         assert_eq!(look(b"a\0x\0", b"abX\0", Some(1)), Look::Changed(2));
+        assert_eq!(look(b"a\0\0", b"a\0\0d", Some(1)), Look::Grown);
     }
 
     #[test]

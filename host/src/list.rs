@@ -7,6 +7,7 @@ use crate::lines;
 use crate::output;
 use crate::psp::ffi::{ACCEPTED, ENTRY_NUMBERS};
 use crate::restored;
+use crate::working::Working;
 use std::ffi::OsString;
 use std::io::Write;
 
@@ -42,9 +43,11 @@ pub fn run(words: &[OsString]) -> Result<(), Failure> {
 /// Prints a first line, and a line an entry.
 fn print(first: &str, table: &[u32]) -> Result<(), Failure> {
     let mut out = output::standard();
+    let working = Working::printing(table.len() / ENTRY_NUMBERS);
     writeln!(out, "{}", first)?;
     for (index, entry) in lines::entries(table).enumerate() {
         writeln!(out, "{}", lines::entry_line(index, &entry))?;
+        working.done(index as u64);
     }
     out.flush()?;
     Ok(())

@@ -6,6 +6,7 @@ mod answer;
 mod arguments;
 mod asked;
 mod blocks;
+mod buffer;
 mod collect;
 mod collection;
 mod columns;
@@ -31,6 +32,7 @@ mod judged;
 mod layers;
 mod lines;
 mod list;
+mod memory;
 mod name;
 mod named;
 mod number;
@@ -46,6 +48,7 @@ mod typed;
 mod wanted;
 mod widen;
 mod words;
+mod working;
 
 extern crate psp as library;
 
@@ -80,10 +83,10 @@ psp --version
 FILE may be - for standard input, except in follow. list, layers, alphas and compare take a saved
 table as FILE too, and know it by its content. The status is 0 if the file is accepted, 1 if it is
 refused, differs or lacks what was asked for, 2 for wrong use or a file that cannot be read or
-written.
+written. Work of more than a second is told of on standard error, if that is a terminal.
 ";
 
-const VERSION: &str = "0.6.0";
+const VERSION: &str = "0.7.0";
 
 struct Command {
     help: &'static str,

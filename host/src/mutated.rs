@@ -43,7 +43,7 @@ fn odd() -> Vec<Layer> {
         layer(b"", [0, 0, 0, 0]),
         layer(
             b"Base, white; gold\tand \"red\"",
-            [-32768, -32768, 4096, 4096],
+            [-32768, -32768, 30000, 30000],
         ),
         layer(b"two\r\nlines\rand\nthree", [1, 2, 3, 4]),
         layer(b" Caf\xE9 \x80\x81 ", [1, 2, 3, 4]),

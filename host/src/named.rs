@@ -381,8 +381,8 @@ mod tests {
     fn an_image_has_values_that_never_change() {
         let image = File::image(8, &[(17, &[3]), (21, &[2, 1])]);
         let told = [
-            (0, "image width 1: it must be 1 to 4,096"),
-            (4, "image height 2: it must be 1 to 4,096"),
+            (0, "image width 1: it must be 1 to 30,000"),
+            (4, "image height 2: it must be 1 to 30,000"),
             (17, "compression type 3: it must be 0 to 2"),
             (19, "bit depth 8: it must be 1, 4, 8 or 24"),
             (21, "plane count 258: it must be 1"),
@@ -511,16 +511,16 @@ mod tests {
 
     #[test]
     fn a_saved_rectangle_is_told_with_its_border() {
-        let image = [(257, [-8, -4, 9, 7]), (273, [0, 0, 5000, 4])];
+        let image = [(257, [-8, -4, 9, 7]), (273, [0, 0, 30001, 4])];
         let mask = [(294, [0, 0, 3, 4]), (310, [4, 3, 2, -1])];
         let layer = with_rectangles(&[image, mask].concat());
-        let rules = "sides are 0 to 4,096, coordinates are -32,768 to 32,767, \
+        let rules = "sides are 0 to 30,000, coordinates are -32,768 to 32,767, \
                      corners must be in order, and it must lie inside the";
         let told = [
             (
                 273,
                 "image",
-                "(0,0)-(5000,4)",
+                "(0,0)-(30001,4)",
                 "(-8,-4)-(9,7)",
                 FROM_THE_CORNER,
             ),
@@ -608,7 +608,7 @@ mod tests {
         let [selection, alpha] = with_masks();
         let rules = "coordinates are -32,768 to 32,767, corners must be in order";
         let inside = format!(
-            "sides are 0 to 4,096, {}, and it must lie inside the",
+            "sides are 0 to 30,000, {}, and it must lie inside the",
             rules
         );
         let counted = "it must be 1";

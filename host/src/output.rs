@@ -20,6 +20,11 @@ pub fn is_terminal(output: &str) -> bool {
     target.starts_with("/dev/pts/") || target.starts_with("/dev/tty")
 }
 
+/// Whether an output, named likewise, goes into a file.
+pub fn is_file(output: &str) -> bool {
+    fs::metadata(output).map_or(false, |data| data.is_file())
+}
+
 /// A line on standard error that is written over, and only if that is a terminal; it is cleared
 /// before anything else is said.
 pub struct Progress {

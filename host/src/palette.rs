@@ -6,6 +6,7 @@ use crate::columns::{Columns, Side};
 use crate::failure::Failure;
 use crate::output;
 use crate::psp;
+use crate::working::Working;
 use std::ffi::OsString;
 use std::io::Write;
 
@@ -20,7 +21,9 @@ pub fn run(words: &[OsString]) -> Result<(), Failure> {
     let [file] = Arguments::parse(words, &[])?.operands("palette FILE")?;
     let file = Accepted::of(Input::artwork(&file, "palette")?)?;
     let ramp = ramp();
+    let working = Working::listing(&file.bytes);
     let view = psp::palette(&file.bytes, ROOM, &ramp);
+    drop(working);
     let table = table(accepted::good(view.number, view.bytes)?);
     let mut out = output::standard();
     for line in table.lines() {

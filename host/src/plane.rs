@@ -6,11 +6,15 @@ use crate::arguments::{Arguments, Known};
 use crate::destination;
 use crate::failure::Failure;
 use crate::holder::Which;
+use crate::memory;
+use crate::output;
 use crate::psp::ffi::{ImageChunk, Rect, ACCEPTED};
 use crate::psp::{self, Entry};
 use crate::shape;
 use crate::wanted::{self, Number, Wanted};
 use crate::widen::{self, Plane};
+use crate::words::{self, grouped};
+use crate::working::Working;
 use std::ffi::{OsStr, OsString};
 
 pub const HELP: &str = "\
@@ -27,6 +31,9 @@ value (maxval) is 1 for an image bitmap of depth 1, 15 at depth 4, and otherwise
 8-bit pixels may be padded or not: the plane's length tells, and nothing has to be chosen. OUT.pgm
 is written beside its place and renamed when it is complete, so a file that stood there survives a
 failure; FILE is never written over, but of a pipe nobody can tell which file it comes from.
+The plane and the canvas take a byte of memory a pixel each. Where they take more than 33,554,432
+bytes together, how many is said on standard error before they are asked for; where these are not
+there, that is said, and nothing is written.
 ";
 
 const LINE: &str = "plane FILE (LAYER BITMAP CHANNEL | selection | alpha RANK) -o OUT.pgm";
@@ -38,9 +45,11 @@ pub fn run(words: &[OsString]) -> Result<(), Failure> {
     let file = Accepted::of(Input::artwork(words.file, "plane")?)?;
     let which = file.holders().find(|&which| words.wanted.is(which));
     let which = which.ok_or_else(|| words.wanted.absent(file.holders()))?;
-    let channel = channel(&file, which, words.codes.as_ref())?;
-    let picture = picture(&file, which, channel)?;
-    destination::write(words.out, &picture, file.identity)
+    let channel = *channel(&file, which, words.codes.as_ref())?;
+    let identity = file.identity;
+    let picture = Picture::of(file, which, &channel)?;
+    let parts = [picture.header.as_bytes(), &picture.canvas];
+    destination::write(words.out, &parts, identity)
 }
 
 /// Bitmap and channel of a layer.
@@ -101,17 +110,35 @@ fn channel<'a>(
     }
 }
 
-/// The PGM of a channel.
-fn picture(file: &Accepted, which: Which, entry: &Entry) -> Result<Vec<u8>, Failure> {
-    let image = file.image()?;
-    let bits = shape::bits(&image, entry.bitmap);
-    let plane = plane(file, entry, &image, bits)?;
-    let saved = file.chunk(which)?.area(entry.bitmap).saved;
-    let canvas = canvas(&image, saved, &plane)?;
-    let greatest = (1u32 << bits) - 1;
-    let mut picture = format!("P5\n{} {}\n{}\n", image.width, image.height, greatest).into_bytes();
-    picture.extend_from_slice(&canvas);
-    Ok(picture)
+/// A PGM. Its parts are written one behind the other, and the canvas is not copied behind a header.
+struct Picture {
+    header: String,
+    canvas: Vec<u8>,
+}
+
+impl Picture {
+    /// The picture of a channel. The file is let go as soon as its plane is read, since it may be as
+    /// long as a canvas, and the plane as soon as it is placed.
+    fn of(file: Accepted, which: Which, entry: &Entry) -> Result<Picture, Failure> {
+        let image = file.image()?;
+        let bits = shape::bits(&image, entry.bitmap);
+        let saved = file.chunk(which)?.area(entry.bitmap).saved;
+        if let Some(sentence) = memory::sentence(entry, sides(&image), bits) {
+            output::say(&sentence);
+        }
+        let plane = plane(&file, entry, &image, bits)?;
+        drop(file);
+        let greatest = (1u32 << bits) - 1;
+        Ok(Picture {
+            header: format!("P5\n{} {}\n{}\n", image.width, image.height, greatest),
+            canvas: canvas(&image, saved, &plane)?,
+        })
+    }
+}
+
+/// Width and height of an image.
+fn sides(image: &ImageChunk) -> [u32; 2] {
+    [image.width, image.height].map(i32::unsigned_abs)
 }
 
 /// The plane at one byte a pixel.
@@ -119,20 +146,27 @@ fn plane(file: &Accepted, entry: &Entry, image: &ImageChunk, bits: u16) -> Resul
     let [start, stored, length] =
         [entry.start, entry.stored, entry.plane].map(|number| number as usize);
     let mut plane = accepted::zeros(length)?;
+    let bytes = words::grouped_bytes(length as u64);
+    let working = Working::on(format!("reading the plane, {}", bytes));
     let code = u32::from(image.compression);
     let answer = psp::read_plane(&file.bytes, start, stored, length, code, &mut plane);
+    drop(working);
     if answer.number != ACCEPTED {
         let sentence = answer::refusal_inside(answer.number, answer.place, start);
         return Err(Failure::Refused(sentence));
     }
+    let _working = Working::on(format!("spreading the plane, {}", bytes));
     let wide = widen::widen(plane, entry.row, entry.width, bits);
-    wide.ok_or_else(|| Failure::Unreadable("no memory for the plane".to_string()))
+    let spread = entry.width as usize * entry.height as usize;
+    wide.ok_or_else(|| Failure::Unreadable(words::no_memory(spread)))
 }
 
 /// The plane at its saved rectangle, black around it.
 fn canvas(image: &ImageChunk, saved: Rect, plane: &Plane) -> Result<Vec<u8>, Failure> {
-    let [width, height] = [image.width, image.height].map(i32::unsigned_abs);
+    let [width, height] = sides(image);
     let mut canvas = accepted::zeros(width as usize * height as usize)?;
+    let pixels = format!("{} by {} pixels", grouped(width), grouped(height));
+    let _working = Working::on(format!("placing the plane on {}", pixels));
     let number = psp::place(width, height, &mut canvas, saved, &plane.bytes, plane.row);
     accepted::good(number, canvas)
 }

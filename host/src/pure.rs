@@ -8,6 +8,7 @@ mod answer;
 mod arguments;
 mod asked;
 mod blocks;
+mod buffer;
 mod collection;
 mod columns;
 mod csv;
@@ -24,11 +25,13 @@ mod holder;
 mod identity;
 mod judged;
 mod lines;
+mod memory;
 #[cfg(test)]
 mod mutated;
 mod name;
 mod named;
 mod number;
+mod output;
 mod saved;
 mod shape;
 mod table;
@@ -36,6 +39,7 @@ mod typed;
 mod wanted;
 mod widen;
 mod words;
+mod working;
 
 mod psp {
     pub mod ffi;

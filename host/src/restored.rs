@@ -7,6 +7,7 @@ use crate::output;
 use crate::psp;
 use crate::psp::ffi::{ACCEPTED, ENTRY_NUMBERS};
 use crate::saved;
+use crate::working::Working;
 use std::io::Write;
 
 /// The numbers of a file that is taken for a saved table; none where it is taken for artwork.
@@ -16,7 +17,9 @@ pub fn table(input: &Input) -> Result<Option<Vec<u32>>, Failure> {
     }
     // By the bytes that are there, whatever its count says.
     let mut table = accepted::zeros(input.bytes.len() / 4)?;
+    let working = Working::on("reading the saved table".to_string());
     let answer = psp::read_table(&input.bytes, &mut table);
+    drop(working);
     if answer.number != ACCEPTED {
         let sentence = saved::refusal(answer.number, &input.bytes);
         return Err(Failure::Refused(sentence));

@@ -22,6 +22,17 @@ pub fn grouped(number: impl Into<i64>) -> String {
     grouped
 }
 
+/// A count of bytes, likewise.
+pub fn grouped_bytes(bytes: u64) -> String {
+    let number = i64::try_from(bytes).unwrap_or(i64::MAX);
+    format!("{} bytes", grouped(number))
+}
+
+/// That memory was asked for and is not there.
+pub fn no_memory(bytes: usize) -> String {
+    format!("no memory for {}", grouped_bytes(bytes as u64))
+}
+
 #[cfg(test)]
 mod tests {
     use super::*;
@@ -37,10 +48,12 @@ mod tests {
         for (number, text) in [
             (0, "0"),
             (999, "999"),
-            (4_096, "4,096"),
-            (16_777_216, "16,777,216"),
+            (30_000, "30,000"),
+            (900_000_000, "900,000,000"),
         ] {
             assert_eq!(grouped(number), text);
         }
+        assert_eq!(grouped_bytes(1_073_741_824), "1,073,741,824 bytes");
+        assert_eq!(no_memory(999), "no memory for 999 bytes");
     }
 }

@@ -170,11 +170,14 @@ fn an_empty_rectangle_has_a_row() {
     assert_eq!(canvas, [7; 6]);
 }
 
-/// Document 02's file of the entries of a table, written here by hand.
+/// Document 02's file of the entries of a table, written here by hand; a side over 4,096 makes it one
+/// of version 2.
 fn saved(entries: &[[u32; ENTRY_NUMBERS]]) -> Vec<u8> {
     let count = entries.len() as u32;
     let length = (5 + 56 * count).to_be_bytes();
-    let mut file = [&length[..], &[1], &count.to_be_bytes()].concat();
+    let is_large = entries.iter().any(|of| of[10] > 4096 || of[11] > 4096);
+    let version = 1 + u8::from(is_large);
+    let mut file = [&length[..], &[version], &count.to_be_bytes()].concat();
     file.extend(entries.iter().flatten().flat_map(|of| of.to_be_bytes()));
     file
 }
@@ -213,6 +216,35 @@ fn a_table_is_written_and_read_back() {
         assert_eq!((read.number, read.count), (0, count));
         assert_eq!(again, table);
     }
+}
+
+#[test]
+fn a_saved_table_has_the_version_of_its_sides() {
+    for number in 0..ENTRY_NUMBERS {
+        for value in [4_096, 4_097, 30_000, u32::MAX] {
+            let mut entries = [[7; ENTRY_NUMBERS]; 2];
+            entries[1][number] = value;
+            let is_large = (number == 10 || number == 11) && value > 4_096;
+            let (version, other) = if is_large { (2, 1) } else { (1, 2) };
+            let mut file = saved(&entries);
+            let mut dest = vec![0; file.len()];
+            let written = numbers::write_table(&entries.concat(), &mut dest);
+            assert_eq!((written.number, &dest), (0, &file));
+            assert_eq!(file[4], version);
+            let mut table = [7; 2 * ENTRY_NUMBERS];
+            assert_eq!(numbers::read_table(&file, &mut table).number, 0);
+            // A version that it has not comes before the room that is missing, and behind the count.
+            file[4] = other;
+            assert_eq!(numbers::read_table(&file, &mut table).number, 74);
+            assert_eq!(numbers::read_table(&file, &mut []).number, 74);
+            file[8] += 1;
+            assert_eq!(numbers::read_table(&file, &mut table).number, 72);
+        }
+    }
+    let mut none = saved(&[]);
+    assert_eq!(numbers::read_table(&none, &mut []).number, 0);
+    none[4] = 2;
+    assert_eq!(numbers::read_table(&none, &mut []).number, 74);
 }
 
 #[test]
@@ -380,7 +412,7 @@ fn slices_may_be_empty() {
 #[test]
 fn the_library_is_the_header_s_and_the_crate_s() {
     assert_eq!(numbers::version(), psp::ffi::VERSION);
-    assert_eq!(psp::version().to_string(), "0.6.0");
+    assert_eq!(psp::version().to_string(), "0.7.0");
     // Where cargo builds this, its own manifest has the version too.
     if let Some(version) = option_env!("CARGO_PKG_VERSION") {
         assert_eq!(psp::version().to_string(), version);
@@ -486,7 +518,8 @@ fn a_saved_table_is_its_length_or_its_refusal() {
         psp::read_table(&wrong, &mut [0; 4 * ENTRY_NUMBERS])
     };
     assert_eq!(refused(3, 0), Err(Refusal::SavedLength));
-    assert_eq!(refused(4, 2), Err(Refusal::SavedVersion));
+    assert_eq!(refused(4, 2), Err(Refusal::SavedSides));
+    assert_eq!(refused(4, 3), Err(Refusal::SavedVersion));
     assert_eq!(refused(8, 3), Err(Refusal::SavedCount));
 }
 

@@ -47,4 +47,5 @@ not_placed 'no such layer' mug.psp 11 0 0
 not_placed 'the layer has no such channel' grey521.psp 0 1 0
 not_placed 'several pixels a byte: spread them before placing' bits1.psp 0 0 0
 not_placed 'listing: refused, 2 at 517' cut.psp 0 0 0
+not_placed 'listing: refused, 1 at 0' over.psp 0 0 0
 not_placed 'listing: refused, 8 at 3083' field-saved.psp 0 0 1

@@ -42,7 +42,7 @@ cp grey521.psp growing.psp
 "$psp" follow growing.psp --idle 20 > followed 2> said &
 follower=$!
 sleep 1
-sized growing 67108865
+sized growing 1073741825
 wait $follower
 same "follow: status of a file over the limit" 1 $?
 same "follow: the answer over the limit" "answer 1 place 0 entries 0" "$(sed -n 5p followed)"

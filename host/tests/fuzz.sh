@@ -74,24 +74,29 @@ done
 
 # judged FILE: sets $number to what document 02 answers for a saved table.
 judged() {
-  size=$(wc -c < "$1") number=70
-  [ "$size" -ge 9 ] || return 0
-  # shellcheck disable=SC2046 # numbers
-  set -- $(od -An -v -tu1 -N 9 "$1")
-  [ $((($1 << 24) + ($2 << 16) + ($3 << 8) + $4)) -eq $((size - 4)) ] || return 0
-  number=71
-  [ "$5" -eq 1 ] || return 0
-  number=72
-  [ $((5 + 56 * (($6 << 24) + ($7 << 16) + ($8 << 8) + $9))) -eq $((size - 4)) ] || return 0
-  number=0
+  number=$(od -An -v -tu1 "$1" | awk '
+    function big(at) { return ((bytes[at] * 256 + bytes[at + 1]) * 256 + bytes[at + 2]) * 256 + bytes[at + 3] }
+    function judge() {
+      if (size < 9 || big(0) != size - 4) return 70
+      if (bytes[4] != 1 && bytes[4] != 2) return 71
+      if (5 + 56 * big(5) != size - 4) return 72
+      version = 1
+      for (at = 9; at < size; at += 56) if (big(at + 40) > 4096 || big(at + 44) > 4096) version = 2
+      return bytes[4] == version ? 0 : 74
+    }
+    BEGIN { size = 0 }
+    { for (k = 1; k <= NF; k++) bytes[size++] = $k }
+    END { print judge() }')
 }
 
 run=0
 while [ $run -lt 120 ]; do
-  case $((run % 3)) in
+  case $((run % 5)) in
   0) cp mug.table fuzz.table ;;
   1) cp alphas.table fuzz.table ;;
   2) cp odd.table fuzz.table ;;
+  3) cp sheet.table fuzz.table ;;
+  4) cp grey521.table fuzz.table ;;
   esac
   damage fuzz.table 12
   [ $((run % 2)) -ne 0 ] || damage fuzz.table 12

@@ -126,9 +126,14 @@ static void saved_tables(const uint8_t *file, size_t length) {
   hold(is_restored(psp_read_table(saved, BYTES, again, NUMBERS), PSP_ACCEPTED, ROOM), "psp_read_table: a table");
   hold(memcmp(again, table, sizeof table) == 0, "psp_read_table: the same numbers");
   hold(is_restored(psp_read_table(saved, BYTES, NULL, 0), PSP_SAVED_NO_ROOM, 0), "psp_read_table: no room");
+  table[10] = PSP_SAVED_SIDE + 1;
+  hold(is_saved(psp_write_table(table, NUMBERS, saved, BYTES), PSP_ACCEPTED, BYTES) && saved[4] == 2, "psp_write_table: a large side");
+  hold(is_restored(psp_read_table(saved, BYTES, again, NUMBERS), PSP_ACCEPTED, ROOM), "psp_read_table: a large side");
+  saved[4] = 1;
+  hold(is_restored(psp_read_table(saved, BYTES, NULL, 0), PSP_SAVED_SIDES, 0), "psp_read_table: a version that its sides have not");
   saved[8]++;
   hold(is_restored(psp_read_table(saved, BYTES, again, NUMBERS), PSP_SAVED_COUNT, 0), "psp_read_table: another count");
-  saved[4]++;
+  saved[4] = 3;
   hold(is_restored(psp_read_table(saved, BYTES, again, NUMBERS), PSP_SAVED_VERSION, 0), "psp_read_table: another version");
 }
 

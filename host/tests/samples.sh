@@ -26,7 +26,7 @@ sized() {
 }
 
 # A file for each answer that a listing can have here; 12 cannot come, since the command makes its table large enough.
-sized over 67108865
+sized over 1073741825
 head -c 520 grey521.psp > cut.psp
 : > empty.psp
 damaged signature grey521 0 'Q'
@@ -71,10 +71,10 @@ head -c 1280 early.psp > cut-early.psp
 damaged alpha-count128 early 436 '\200'
 damaged alpha-named alphas 709 '\033[2JCaf\351 \134'
 
-# The largest permitted input, nearly all of it a skipped block.
+# The largest permitted input, nearly all of it a skipped block that takes no room on the disk.
 cp grey521.psp large.psp
-put large.psp 521 '~BK\000\014\000\000\000\000\000\351\375\377\003'
-sized large 67108864
+put large.psp 521 '~BK\000\014\000\000\000\000\000\351\375\377\077'
+sized large 1073741824
 # More blocks than the first table of follow has room for.
 cp grey521.psp many.psp
 blocks=0

@@ -2,15 +2,16 @@
 # in place of it. Sourced by host/check.
 # shellcheck shell=sh disable=SC2154 # variables of host/check
 
-# written: the saved table of a listing's lines, which it reads.
+# written: the saved table of a listing's lines, which it reads; a width or height over 4,096 makes it one of version 2.
 written() {
   awk '
     function big(n) { return sprintf("\\%03o\\%03o\\%03o\\%03o", int(n / 16777216), int(n / 65536) % 256, int(n / 256) % 256, n % 256) }
     BEGIN {
       split("image - palette bank layer channel selection alphabank alpha", kinds, " ")
       for (k in kinds) ids[kinds[k]] = k - 1
+      version = 1
     }
-    NR == 1 { printf "%s\\001%s\n", big(5 + 56 * $6), big($6) }
+    NR == 1 { count = $6 }
     NR > 1 {
       # Layer number, bitmap, channel, start, stored, width, height, plane, row.
       split("0 0 0 0 0 0 0 0 0", own, " ")
@@ -19,14 +20,19 @@ written() {
       if ($2 == "palette" || $2 == "skip") { own[4] = $6; own[5] = $7 }
       line = big($2 == "skip" ? $8 : ids[$2]) big($2 == "skip") big($3) big($4) big($5)
       for (k = 1; k <= 9; k++) line = line big(own[k])
-      print line
+      if (own[6] + 0 > 4096 || own[7] + 0 > 4096) version = 2
+      lines[NR] = line
+    }
+    END {
+      printf "%s\\%03o%s\n", big(5 + 56 * count), version, big(count)
+      for (k = 2; k <= NR; k++) print lines[k]
     }' | while read -r line; do
     # shellcheck disable=SC2059 # the bytes are the format
     printf "$line"
   done
 }
 
-for name in mug alphas grey521; do
+for name in mug alphas grey521 sheet; do
   "$reference" list < $name.psp | written > $name.table
 done
 echo 'answer 0 place - entries 0' | written > empty.table
@@ -47,27 +53,56 @@ answer 0 place - entries 12
 11 channel 2 0 0 0 4 0 0 0 3 2 6 3
 END
 
-# A file for each refusal: cut off, with a byte more, under nine bytes, of another version, with another count, with a part of an entry.
+# A file for each refusal: cut off, with a byte more, under nine bytes, of another version, with another count, with a part of an entry, and
+# of a version that its sides have not: of 2 without a large one, also where it has no entries, and of 1 with one.
 head -c 3000 mug.table > cut.table
 { cat mug.table && printf x; } > long.table
 head -c 8 mug.table > short.table
 for name in version count; do cp mug.table $name.table; done
-put version.table 4 '\002'
+put version.table 4 '\003'
 put count.table 8 '\065'
 { cat grey521.table && printf 'part'; } > part.table
 put part.table 0 '\000\000\000\351'
+for name in mug empty sheet; do cp $name.table $name-sides.table; done
+put mug-sides.table 4 '\002'
+put empty-sides.table 4 '\002'
+put sheet-sides.table 4 '\001'
 
-# One longer than any artwork, whose entries are zeros; and one of another version whose length begins with another byte than 0.
-printf '\004\000\000\035\001\000\022\111\045' > large.table
-dd if=/dev/null of=large.table bs=1 seek=67108897 2> /dev/null
+# One longer than any artwork, whose entries are zeros and take no room on the disk; then with one large side, of another version, and cut
+# off. Through a pipe it is known as well.
+printf '\100\000\000\065\001\001\044\222\112' > large.table
+dd if=/dev/null of=large.table bs=1 seek=1073741881 2> /dev/null
 "$psp" layers large.table > printed 2> said
 same "a saved table longer than artwork: status" 0 $?
 same "a saved table longer than artwork: columns" 2 "$(wc -l < printed | tr -d ' ')"
+# refuses_large NUMBER WORDS: what it is refused for.
+refuses_large() {
+  "$psp" layers large.table > printed 2> said
+  same "a long saved table, $1: status" 1 $?
+  same "a long saved table, $1: sentence" 1 "$(grep -c "^psp: refused: $1, taken for a saved table: $2;" said)"
+}
+put large.table 1073741869 '\000\000\165\060'
+refuses_large 74 "by its version, 1, no side is over 4,096, and entry 19173961 has a height of 30,000"
 put large.table 4 '\002'
-"$psp" layers large.table > printed 2> said
-same "a long saved table of version 2: status" 1 $?
-same "a long saved table of version 2: sentence" 1 "$(grep -c '^psp: refused: 71, taken for a saved table: its version is 2' said)"
+# shellcheck disable=SC2002 # a pipe
+cat large.table | "$psp" layers - > printed 2> said
+same "a saved table longer than artwork, by a pipe: status" 0 $?
+put large.table 4 '\003'
+refuses_large 71 "its version is 3, and 1 and 2 are read"
+put large.table 4 '\002'
+dd if=/dev/null of=large.table bs=1 seek=1073741880 2> /dev/null
+refuses_large 70 "by its length it has 1073741881 bytes, and 1073741880 are there"
 rm large.table
+
+# Artwork is none: as long as it may be and one byte longer, and as long as its first four bytes would say. No more of it is read.
+for length in 1073741825 1348561266; do
+  cp grey521.psp long-artwork.psp
+  sized long-artwork $length
+  "$psp" list long-artwork.psp > printed 2> said
+  same "artwork of $length bytes: status" 1 $?
+  same "artwork of $length bytes" "answer 1 place 0 entries 0" "$(cat printed)"
+done
+rm long-artwork.psp
 
 # A saved table in a folder of artwork is not compared.
 cp mug.table all/saved.psp

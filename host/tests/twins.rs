@@ -1,5 +1,6 @@
 //! Writes pictures of each depth twice into the current folder, with the same pixels and with rows
-//! in either form, and pictures with a plane length that is of no form. Built and run by host/check.
+//! in either form, pictures with a plane length that is of no form, and the largest sheet, of which
+//! little is saved. Built and run by host/check.
 
 #[path = "../../tests/reference/src"]
 mod reference {
@@ -16,6 +17,9 @@ use std::fs;
 use std::io;
 use write::{Alpha, Area, Form, Image, InAlphaBank, InBank, InLayer, Layer, Picture};
 
+/// The greatest side.
+const SIDE: u16 = 30_000;
+
 /// No pixel has this byte, so padding that is taken for one shows.
 const PADDING: u8 = 0xEE;
 
@@ -29,7 +33,8 @@ fn main() -> io::Result<()> {
     save(1, "wrong", &picture(1, Form::Unpadded, Form::Unpadded))?;
     save(4, "wrong", &picture(4, Form::Unpadded, Form::Padded))?;
     save(8, "wrong", &with_length(8, 0, 23))?;
-    save(24, "wrong", &with_length(24, 2, 11))
+    save(24, "wrong", &with_length(24, 2, 11))?;
+    fs::write("sheet.psp", sheet().bytes())
 }
 
 fn save(depth: u16, name: &str, picture: &Picture) -> io::Result<()> {
@@ -62,6 +67,24 @@ fn picture(depth: u16, colours: Form, masks: Form) -> Picture {
         .bank(vec![InBank::Layer(layer)])
         .selection(selection)
         .alphas(vec![InAlphaBank::Alpha(Alpha::new("Rows", alpha))])
+}
+
+/// A sheet of 30,000 by 30,000 pixels with a layer of one row and an alpha channel of one column.
+fn sheet() -> Picture {
+    let image = Image {
+        width: SIDE.into(),
+        height: SIDE.into(),
+        compression: 1,
+        ..Image::new(8, true)
+    };
+    let line = packed_form(&vec![7; SIDE.into()]);
+    let row = Layer::new(Rectangle::new(0, 0, SIDE.into(), 1)).named("Row");
+    let row = row.with_rows(Form::Unpadded, 0, 0, line.clone());
+    let column = Area::new(Rectangle::new(0, 0, 1, SIDE.into()));
+    let column = column.with_rows(Form::Unpadded, write::ALPHA, line);
+    Picture::new(image)
+        .bank(vec![InBank::Layer(row)])
+        .alphas(vec![InAlphaBank::Alpha(Alpha::new("Column", column))])
 }
 
 /// A selection, or what an alpha channel is besides its name.

@@ -13,7 +13,7 @@ wrong() {
 }
 
 # The image: each field, and where a rule is between two of them also a pair that only does not agree.
-wrong width mug 50 0 '\001\020'
+wrong width mug 50 0 '\061\165'
 wrong height mug 50 4 '\377\377\377\377'
 wrong metric mug 50 16 '\003'
 wrong metric-0 grey521 50 16 '\001'
@@ -39,7 +39,7 @@ wrong palette-end bits1 545 0 '\003'
 wrong type mug 330 256 '\002'
 wrong border mug 330 257 '\377\177\377\377'
 wrong corners mug 330 265 '\377\377\377\377'
-wrong saved mug 2810 281 '\210\023'
+wrong saved mug 2810 281 '\105\165'
 wrong away mug 2810 257 '\050'
 wrong mask-border mug 5890 298 '\000\200'
 wrong mask mug 5890 310 '\377\377\377\377'

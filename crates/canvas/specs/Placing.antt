@@ -31,7 +31,7 @@ placeResult answer canvas = record { told = placePaper answer; dest = canvas }
 abbrev pub untouched : ℕ → List ℕ → Result ℕ
 untouched number canvas = record { told = number; dest = canvas }
 
--- sides of 1 to 4,096, and a length that is their product
+-- sides from 1 up to the limit, and a length that is their product
 abbrev pub isCanvas : ℕ → ℕ → ℕ → Bool
 isCanvas width height long =
     leb 1 width && leb width sideLimit && leb 1 height && leb height sideLimit && eqb long (width * height)

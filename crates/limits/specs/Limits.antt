@@ -1,14 +1,14 @@
--- The limits of document 01, "What is read and what is only listed".
+-- The limits of document 01, "What is read and what is only listed", of which document 02, request ix, raised input, sides and plane.
 use Prim.Native.Nat.{ℕ}
 use lib.IntN.{ℤ, pos, negsuc}
 
 -- bytes of an input
 abbrev pub inputLimit : ℕ
-inputLimit = 67108864
+inputLimit = 1073741824
 
 -- sides of an image, of a saved rectangle and of a canvas
 abbrev pub sideLimit : ℕ
-sideLimit = 4096
+sideLimit = 30000
 
 -- layers of an image
 abbrev pub layerLimit : ℕ
@@ -23,4 +23,4 @@ mostCoordinate = pos 32767
 
 -- bytes of a plane
 abbrev pub planeLimit : ℕ
-planeLimit = 16777216
+planeLimit = 900000000

@@ -48,7 +48,7 @@ use Rattle.canvas.specs.Placing.{placed}
 use Rattle.canvas.proofs.PlaceTests.{place-ind}
 use Rattle.saved.specs.declared.writer.Saved.{Saved}
 use Rattle.saved.specs.declared.reader.Restored.{Restored}
-use Rattle.saved.specs.Saved.{writes, reads}
+use Rattle.saved.specs.Saved.{writesAs, writes, restores, reads}
 use Rattle.psp.specs.Recorded.{ListedRecords}
 use Rattle.promises.specs.EveryInput.{Exact, header, blocks, ListsExactly, Holds, Refuses, RefusesAtPacket}
 
@@ -229,17 +229,18 @@ place-refuses width height canvas r plane row =
     (λ c w p. well-as 0 refl)
 
 pub write-refuses : (table dest : List ℕ) → Refuses (λ (p : Saved). p .number) 70 73 dest (writes table dest)
-unfolding writes
+unfolding writesAs
 write-refuses table dest =
     let R = Refuses (λ (p : Saved). p .number) 70 73 dest in
     pick-ind R _ _ _ (λ _. refused-as _ (omega arith) (omega arith)) (λ _.
     pick-ind R _ _ _ (λ _. refused-as _ (omega arith) (omega arith)) (λ _. well-as _ refl))
 
-pub read-refuses : (file table : List ℕ) → Refuses (λ (p : Restored). p .number) 70 73 table (reads file table)
-unfolding reads
+pub read-refuses : (file table : List ℕ) → Refuses (λ (p : Restored). p .number) 70 74 table (reads file table)
+unfolding reads restores
 read-refuses file table =
-    let R = Refuses (λ (p : Restored). p .number) 70 73 table in
+    let R = Refuses (λ (p : Restored). p .number) 70 74 table in
     pick-ind R _ _ _ (λ _. refused-as _ (omega arith) (omega arith)) (λ _.
     pick-ind R _ _ _ (λ _. refused-as _ (omega arith) (omega arith)) (λ _.
     pick-ind R _ _ _ (λ _. refused-as _ (omega arith) (omega arith)) (λ _.
-    pick-ind R _ _ _ (λ _. refused-as _ (omega arith) (omega arith)) (λ _. well-as _ refl))))
+    pick-ind R _ _ _ (λ _. refused-as _ (omega arith) (omega arith)) (λ _.
+    pick-ind R _ _ _ (λ _. refused-as _ (omega arith) (omega arith)) (λ _. well-as _ refl)))))

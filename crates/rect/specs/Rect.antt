@@ -43,7 +43,7 @@ widthOf r = sideOf (r .left) (r .right)
 abbrev pub heightOf : Rect → ℕ
 heightOf r = sideOf (r .top) (r .bottom)
 
--- proper, with sides of 0 to 4,096
+-- proper, with sides up to the limit
 abbrev pub isWithin : Rect → Bool
 isWithin r = isProper r && (leb (widthOf r) sideLimit && leb (heightOf r) sideLimit)
 

@@ -30,7 +30,8 @@ readOf p =
     pick (eqb (p .number) 0) (read.Whole (p .count))
     (pick (eqb (p .number) 70) read.WrongLength
     (pick (eqb (p .number) 71) read.WrongVersion
-    (pick (eqb (p .number) 72) read.WrongCount read.NoRoom)))
+    (pick (eqb (p .number) 72) read.WrongCount
+    (pick (eqb (p .number) 74) read.WrongSides read.NoRoom))))
 
 read-back : (a : ReadAnswer) → readOf (readPaper a) ≡ a
 unfolding readOf pick
@@ -38,6 +39,7 @@ read-back (read.Whole n) = refl
 read-back read.WrongLength = refl
 read-back read.WrongVersion = refl
 read-back read.WrongCount = refl
+read-back read.WrongSides = refl
 read-back read.NoRoom = refl
 
 pub write-table-one : OneOutcome (λ l e. now (e .1 .0)) write-table.Learnt

@@ -11,9 +11,10 @@ use Rattle.laws.proofs.All.{all-take}
 use Rattle.endian.specs.Number.{bigAt, bigBytesOf}
 use Rattle.endian.proofs.Turned.{big-length, big-number, big-bytes}
 use Rattle.entry.specs.Entry.{size}
-use Rattle.saved.specs.Saved.{entriesIn, numbersIn, inBytes, version, following, saved, lengthSaid, versionSaid, countSaid, numbersAt, entriesOf}
+use Rattle.saved.specs.Saved.{entriesIn, numbersIn, inBytes, following, savedAs, versionOf, saved, lengthSaid, versionSaid, countSaid, numbersAt, found}
 use Rattle.saved.specs.Kept.{Bytes, Numbers, largest}
-use Rattle.saved.proofs.Form.{following-length, saved-length, numbers-length, numbers-at-length}
+use Rattle.saved.proofs.Form.{following-length, saved-length, numbers-length, numbers-at-length, entries-count}
+use Rattle.saved.proofs.Versions.{version-kept}
 use Rattle.saved.proofs.Tests.{SavedTable}
 
 -- ### What the file of a table says
@@ -34,45 +35,50 @@ numbers-said front (n ∷ ns) at e (both small all) =
     (ap (λ (l : List ℕ). numbersAt (length ns) l (at + 4)) (sym (append-assoc front (bigBytesOf 4 n) (inBytes ns)))
     ∙ numbers-said (front ++ bigBytesOf 4 n) ns (at + 4) further all)
 
-module _ (table : List ℕ) (numbers : Numbers table) (fits : entriesIn table ≤ largest) where
+-- of a version that a byte can say
+module _ (v : ℕ) (table : List ℕ) (fits : entriesIn table ≤ largest) where
   abbrev count : List ℕ
   count = bigBytesOf 4 (entriesIn table)
 
   abbrev long : List ℕ
-  long = bigBytesOf 4 (length (following table))
+  long = bigBytesOf 4 (length (following v table))
 
-  pub saved-length-said : lengthSaid (saved table) ≡ length (following table)
-  unfolding saved
-  saved-length-said = said [] (length (following table)) (following table) 0 refl (omega (arith, following-length table))
+  pub length-said : lengthSaid (savedAs v table) ≡ length (savedAs v table) - 4
+  unfolding savedAs
+  length-said =
+      said [] (length (following v table)) (following v table) 0 refl (omega (arith, following-length v table))
+      ∙ omega (arith, saved-length v table, following-length v table)
 
-  pub saved-version-said : versionSaid (saved table) ≡ version
-  unfolding saved following
-  saved-version-said = getD-at long version (count ++ inBytes (numbersIn table)) 0 4 (big-length 4 (length (following table)))
+  pub version-said : versionSaid (savedAs v table) ≡ v
+  unfolding savedAs following
+  version-said = getD-at long v (count ++ inBytes (numbersIn table)) 0 4 (big-length 4 (length (following v table)))
 
-  pub saved-count-said : countSaid (saved table) ≡ entriesIn table
-  unfolding saved following
-  saved-count-said =
-      ap (λ (l : List ℕ). bigAt 4 l 5) (sym (append-assoc long (version ∷ []) (count ++ inBytes (numbersIn table))))
-      ∙ said (long ++ (version ∷ [])) (entriesIn table) (inBytes (numbersIn table)) 5
-      (length-append long (version ∷ []) ∙ omega (arith, big-length 4 (length (following table)))) (omega arith)
+  pub count-said : countSaid (savedAs v table) ≡ entriesIn table
+  unfolding savedAs following
+  count-said =
+      ap (λ (l : List ℕ). bigAt 4 l 5) (sym (append-assoc long (v ∷ []) (count ++ inBytes (numbersIn table))))
+      ∙ said (long ++ (v ∷ [])) (entriesIn table) (inBytes (numbersIn table)) 5
+      (length-append long (v ∷ []) ∙ omega (arith, big-length 4 (length (following v table)))) (omega arith)
 
-  pub saved-entries-said : entriesOf (saved table) (entriesIn table) ≡ numbersIn table
-  unfolding saved following
-  saved-entries-said =
+  pub entries-said : Numbers table → found (savedAs v table) ≡ numbersIn table
+  unfolding savedAs following
+  entries-said numbers =
       let ns = numbersIn table in
-      let head : length (long ++ (version ∷ count)) ≡ 9 =
-      length-append long (version ∷ count) ∙ omega (arith, big-length 4 (length (following table)), big-length 4 (entriesIn table)) in
-      ap (λ (n : ℕ). numbersAt n (saved table) 9) (sym (numbers-length table))
-      ∙ ap (λ (l : List ℕ). numbersAt (length ns) l 9) (sym (append-assoc long (version ∷ count) (inBytes ns)))
-      ∙ numbers-said (long ++ (version ∷ count)) ns 9 head (all-take (size * entriesIn table) numbers)
+      let head : length (long ++ (v ∷ count)) ≡ 9 =
+      length-append long (v ∷ count) ∙ omega (arith, big-length 4 (length (following v table)), big-length 4 (entriesIn table)) in
+      ap (λ (n : ℕ). numbersAt n (savedAs v table) 9) (ap (λ (n : ℕ). size * n) count-said ∙ sym (numbers-length table))
+      ∙ ap (λ (l : List ℕ). numbersAt (length ns) l 9) (sym (append-assoc long (v ∷ count) (inBytes ns)))
+      ∙ numbers-said (long ++ (v ∷ count)) ns 9 head (all-take (size * entriesIn table) numbers)
 
-  pub is-saved-table : SavedTable (saved table)
-  is-saved-table = record {
-    nine = omega (arith, saved-length table);
-    length-is = saved-length-said ∙ omega (arith, saved-length table, following-length table);
-    version-is = saved-version-said;
-    count-is = saved-length-said ∙ following-length table ∙ ap (λ (n : ℕ). 5 + 56 * n) (sym saved-count-said);
-  }
+pub is-saved-table : (table : List ℕ) → Numbers table → entriesIn table ≤ largest → SavedTable (saved table)
+is-saved-table table numbers fits =
+    let v = versionOf table in
+    record {
+      nine = omega (arith, saved-length v table);
+      length-is = length-said v table fits;
+      count-is = omega (arith, length-said v table fits, saved-length v table, count-said v table fits);
+      version-is = version-said v table fits ∙ sym (version-kept table) ∙ ap versionOf (sym (entries-said v table fits numbers));
+    }
 
 -- ### What a file is that passes the tests
 
@@ -85,29 +91,29 @@ bytes-said (suc n) file at bytes e =
     ∙ take-append-drop 4 (drop at file)
 
 module _ (file : List ℕ) (bytes : Bytes file) (s : SavedTable file) where
-  abbrev found : List ℕ
-  found = entriesOf file (countSaid file)
+  abbrev ns : List ℕ
+  ns = found file
 
-  pub found-count : entriesIn found ≡ countSaid file
-  found-count = omega (arith, numbers-at-length (size * countSaid file) file 9)
+  found-count : entriesIn ns ≡ countSaid file
+  found-count = entries-count file (countSaid file)
 
-  found-numbers : numbersIn found ≡ found
-  found-numbers = take-all (size * entriesIn found) found (omega (arith, numbers-at-length (size * countSaid file) file 9))
+  found-numbers : numbersIn ns ≡ ns
+  found-numbers = take-all (size * entriesIn ns) ns (omega (arith, numbers-at-length (size * countSaid file) file 9))
 
-  found-follows : following found ≡ drop 4 file
+  found-follows : following (versionOf ns) ns ≡ drop 4 file
   unfolding following part
   found-follows =
       let there : 9 + 4 * (size * countSaid file) ≡ length file = omega (arith, s .nine, s .length-is, s .count-is) in
-      let counted : bigBytesOf 4 (entriesIn found) ≡ take 4 (drop 5 file) = ap (bigBytesOf 4) found-count ∙ big-bytes 4 file 5 (s .nine) bytes in
-      let entries : inBytes (numbersIn found) ≡ drop 4 (drop 5 file) =
+      let counted : bigBytesOf 4 (entriesIn ns) ≡ take 4 (drop 5 file) = ap (bigBytesOf 4) found-count ∙ big-bytes 4 file 5 (s .nine) bytes in
+      let entries : inBytes (numbersIn ns) ≡ drop 4 (drop 5 file) =
       ap inBytes found-numbers ∙ bytes-said (size * countSaid file) file 9 bytes there ∙ sym (drop-drop 4 5 file) in
       ap₂ _∷_ (sym (s .version-is)) (ap₂ _++_ counted entries ∙ take-append-drop 4 (drop 5 file))
       ∙ sym (drop-cons file 4 0 (omega (arith, s .nine)))
 
   -- it is the file of its entries
-  pub saved-again : saved found ≡ file
-  unfolding saved part
+  pub saved-again : saved ns ≡ file
+  unfolding savedAs part
   saved-again =
-      let long : length (following found) ≡ lengthSaid file = following-length found ∙ ap (λ (n : ℕ). 5 + 56 * n) found-count ∙ sym (s .count-is) in
+      let long : length (following (versionOf ns) ns) ≡ lengthSaid file = following-length (versionOf ns) ns ∙ ap (λ (n : ℕ). 5 + 56 * n) found-count ∙ sym (s .count-is) in
       ap₂ _++_ (ap (bigBytesOf 4) long ∙ big-bytes 4 file 0 (omega (arith, s .nine)) bytes) found-follows
       ∙ take-append-drop 4 file

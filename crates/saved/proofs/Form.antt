@@ -13,7 +13,7 @@ use Rattle.laws.proofs.Stored.{Stored, stored-next}
 use Rattle.endian.specs.Number.{bigAt, bigBytesOf}
 use Rattle.endian.proofs.Turned.{big-length}
 use Rattle.entry.specs.Entry.{size}
-use Rattle.saved.specs.Saved.{entriesIn, numbersIn, inBytes, version, following, saved, numbersAt}
+use Rattle.saved.specs.Saved.{entriesIn, numbersIn, inBytes, following, savedAs, numbersAt, entriesOf}
 
 -- ### Lengths
 
@@ -25,17 +25,17 @@ in-bytes-length (n ∷ ns) = length-append (bigBytesOf 4 n) (inBytes ns) ∙ ome
 pub numbers-length : (table : List ℕ) → length (numbersIn table) ≡ size * entriesIn table
 numbers-length table = length-take-le (size * entriesIn table) table (omega arith)
 
-pub following-length : (table : List ℕ) → length (following table) ≡ 5 + 56 * entriesIn table
+pub following-length : (v : ℕ) (table : List ℕ) → length (following v table) ≡ 5 + 56 * entriesIn table
 unfolding following
-following-length table =
+following-length v table =
     let counted = length-append (bigBytesOf 4 (entriesIn table)) (inBytes (numbersIn table)) in
     omega (arith, counted, big-length 4 (entriesIn table), in-bytes-length (numbersIn table), numbers-length table)
 
-pub saved-length : (table : List ℕ) → length (saved table) ≡ 9 + 56 * entriesIn table
-unfolding saved
-saved-length table =
-    let f = length (following table) in
-    length-append (bigBytesOf 4 f) (following table) ∙ omega (arith, big-length 4 f, following-length table)
+pub saved-length : (v : ℕ) (table : List ℕ) → length (savedAs v table) ≡ 9 + 56 * entriesIn table
+unfolding savedAs
+saved-length v table =
+    let f = length (following v table) in
+    length-append (bigBytesOf 4 f) (following v table) ∙ omega (arith, big-length 4 f, following-length v table)
 
 -- ### Written one by one
 
@@ -90,30 +90,30 @@ module _ (table : List ℕ) (n : ℕ) (dest : List ℕ) (at : ℕ) where
 
 -- length, version, count and numbers, each at its place, are the file
 pub file-put :
-    (table dest one two three : List ℕ) (count : ℕ) → count ≡ entriesIn table → 9 + 56 * count ≤ length dest
-    → one ≡ over dest 0 (bigBytesOf 4 (5 + 56 * count)) → two ≡ over (set one 4 version) 5 (bigBytesOf 4 count)
-    → three ≡ over two 9 (inBytes (take (size * count) table)) → three ≡ over dest 0 (saved table)
-unfolding saved following
-file-put table dest one two three count e room first second third =
+    (table dest one two three : List ℕ) (v count : ℕ) → count ≡ entriesIn table → 9 + 56 * count ≤ length dest
+    → one ≡ over dest 0 (bigBytesOf 4 (5 + 56 * count)) → two ≡ over (set one 4 v) 5 (bigBytesOf 4 count)
+    → three ≡ over two 9 (inBytes (take (size * count) table)) → three ≡ over dest 0 (savedAs v table)
+unfolding savedAs following
+file-put table dest one two three v count e room first second third =
     third
-    ∙ ap (λ (l : List ℕ). over l 9 (inBytes (take (size * count) table))) (second ∙ ap (λ (l : List ℕ). over (set l 4 version) 5 (bigBytesOf 4 count)) first)
+    ∙ ap (λ (l : List ℕ). over l 9 (inBytes (take (size * count) table))) (second ∙ ap (λ (l : List ℕ). over (set l 4 v) 5 (bigBytesOf 4 count)) first)
     ∙ pieces dest (bigBytesOf 4 (5 + 56 * count)) (bigBytesOf 4 count) (inBytes (take (size * count) table)) (big-length 4 (5 + 56 * count)) (big-length 4 count)
     (omega (arith, in-bytes-length (take (size * count) table), length-take-le (size * count) table (omega arith)))
-    ∙ ap (λ (n : ℕ). over dest 0 (bigBytesOf 4 (5 + 56 * n) ++ (version ∷ bigBytesOf 4 n ++ inBytes (take (size * n) table)))) e
-    ∙ ap (λ (n : ℕ). over dest 0 (bigBytesOf 4 n ++ following table)) (sym (following-length table))
+    ∙ ap (λ (n : ℕ). over dest 0 (bigBytesOf 4 (5 + 56 * n) ++ (v ∷ bigBytesOf 4 n ++ inBytes (take (size * n) table)))) e
+    ∙ ap (λ (n : ℕ). over dest 0 (bigBytesOf 4 n ++ following v table)) (sym (following-length v table))
   where
     pieces :
         (d f n b : List ℕ) → length f ≡ 4 → length n ≡ 4 → 9 + length b ≤ length d
-        → over (over (set (over d 0 f) 4 version) 5 n) 9 b ≡ over d 0 (f ++ (version ∷ n ++ b))
+        → over (over (set (over d 0 f) 4 v) 5 n) 9 b ≡ over d 0 (f ++ (v ∷ n ++ b))
     pieces d f n b four four′ fits =
-        let v : List ℕ = version ∷ [] in
+        let one : List ℕ = v ∷ [] in
         let long : length (over d 0 f) ≡ length d = over-length d 0 f (omega arith) in
-        let five : length (f ++ v) ≡ 5 = length-append f v ∙ omega arith in
-        let nine : length ((f ++ v) ++ n) ≡ 9 = length-append (f ++ v) n ∙ omega arith in
-        ap (λ (l : List ℕ). over (over l 5 n) 9 b) (over-one (over d 0 f) 4 version (omega arith) ∙ over-over d 0 4 f v (omega arith) (omega arith))
-        ∙ ap (λ (l : List ℕ). over l 9 b) (over-over d 0 5 (f ++ v) n (omega arith) (omega arith))
-        ∙ over-over d 0 9 ((f ++ v) ++ n) b (omega arith) (omega arith)
-        ∙ ap (over d 0) (append-assoc (f ++ v) n b ∙ append-assoc f v (n ++ b))
+        let five : length (f ++ one) ≡ 5 = length-append f one ∙ omega arith in
+        let nine : length ((f ++ one) ++ n) ≡ 9 = length-append (f ++ one) n ∙ omega arith in
+        ap (λ (l : List ℕ). over (over l 5 n) 9 b) (over-one (over d 0 f) 4 v (omega arith) ∙ over-over d 0 4 f one (omega arith) (omega arith))
+        ∙ ap (λ (l : List ℕ). over l 9 b) (over-over d 0 5 (f ++ one) n (omega arith) (omega arith))
+        ∙ over-over d 0 9 ((f ++ one) ++ n) b (omega arith) (omega arith)
+        ∙ ap (over d 0) (append-assoc (f ++ one) n b ∙ append-assoc f one (n ++ b))
 
 -- ### Read one by one
 
@@ -127,6 +127,13 @@ unfolding numbersAt
 number-at zero file at i low = absurd (omega arith)
 number-at (suc n) file at zero low = ap (bigAt 4 file) (omega arith)
 number-at (suc n) file at (suc i) low = number-at n file (at + 4) i (omega arith) ∙ ap (bigAt 4 file) (omega arith)
+
+-- so many entries are as many, each with its numbers
+pub entries-count : (file : List ℕ) (count : ℕ) → entriesIn (entriesOf file count) ≡ count
+entries-count file count = omega (arith, numbers-at-length (size * count) file 9)
+
+pub number-of : (file : List ℕ) (count k j : ℕ) → j < size → k < count → getD (entriesOf file count) (k * size + j) 0 ≡ bigAt 4 file (9 + 56 * k + 4 * j)
+number-of file count k j small low = number-at (size * count) file 9 (k * size + j) (omega arith) ∙ ap (bigAt 4 file) (omega arith)
 
 -- one number more
 pub get-next :

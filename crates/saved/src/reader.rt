@@ -2,7 +2,9 @@
 use crate::COUNTED;
 use crate::ENTRY;
 use crate::HEAD;
-use crate::VERSION;
+use crate::sides;
+use crate::sides::FIRST;
+use crate::sides::SECOND;
 use endian::big;
 use entry::Entry;
 ghost use mathlib.Core.Path.{_≡_};
@@ -21,6 +23,8 @@ pub enum ReadAnswer {
     WrongVersion,
     // 72: a count that is not the length's
     WrongCount,
+    // 74: a version that its sides do not have
+    WrongSides,
     // 73: the table has room for fewer entries
     NoRoom,
 }
@@ -50,6 +54,10 @@ impl ReadAnswer {
                 number: 72,
                 count: 0,
             },
+            ReadAnswer::WrongSides => Restored {
+                number: 74,
+                count: 0,
+            },
             ReadAnswer::NoRoom => Restored {
                 number: 73,
                 count: 0,
@@ -71,7 +79,8 @@ fn get_numbers(file: &[u8], at: usize, table: &mut [u32], numbers: usize)
 }
 
 // Reads a saved table into the front of a table, which keeps the rest. 70: fewer than nine bytes, or a length that is not the file's. 71: another
-// version. 72: a count that is not the length's. 73: the table has room for fewer entries. All four leave the table untouched.
+// version. 72: a count that is not the length's. 74: version 1 with a large side, or version 2 without one. 73: the table has room for fewer
+// entries. All five leave the table untouched.
 pub fn read_table(file: &[u8], table: &mut [u32]) -> ReadAnswer
     ensures { λ r. ⌜ readResult r (now (table .exit)) ≡ reads (now (file .entry)) (now (table .entry)) ⌝ }
 {
@@ -82,12 +91,17 @@ pub fn read_table(file: &[u8], table: &mut [u32]) -> ReadAnswer
     if length != file.len() - 4 {
         return ReadAnswer::WrongLength;
     }
-    if file[4] != VERSION {
+    let version = file[4];
+    if (version < FIRST) | (SECOND < version) {
         return ReadAnswer::WrongVersion;
     }
     let count = big::u32_at(file, 5) as usize;
     if length != COUNTED + ENTRY * count {
         return ReadAnswer::WrongCount;
+    }
+    let right = sides::version_in(file, count);
+    if version != right {
+        return ReadAnswer::WrongSides;
     }
     if table.len() / Entry::SIZE < count {
         return ReadAnswer::NoRoom;

@@ -2,7 +2,7 @@
 use crate::COUNTED;
 use crate::ENTRY;
 use crate::HEAD;
-use crate::VERSION;
+use crate::sides;
 use endian::big;
 use entry::Entry;
 ghost use mathlib.Core.Path.{_≡_};
@@ -67,7 +67,7 @@ fn put_file(table: &[u32], count: usize, dest: &mut [u8])
     ensures { λ _. ⌜ now (dest .exit) ≡ over (now (dest .entry)) 0 (saved (now (table .entry))) ⌝ }
 {
     big::put_u32(dest, 0, (COUNTED + ENTRY * count) as u32);
-    dest[4] = VERSION;
+    dest[4] = sides::version_of(table);
     big::put_u32(dest, 5, count as u32);
     put_numbers(table, Entry::SIZE * count, dest, HEAD);
 }

@@ -2,8 +2,8 @@
 
 use std::os::raw::c_double;
 
-/// PSP_VERSION: 0.6.0, as major times 10,000, minor times 100, patch.
-pub const VERSION: u32 = 600;
+/// PSP_VERSION: 0.7.0, as major times 10,000, minor times 100, patch.
+pub const VERSION: u32 = 700;
 
 // Every function: all is well.
 pub const ACCEPTED: u32 = 0;
@@ -53,15 +53,17 @@ pub const SAVED_LENGTH: u32 = 70;
 pub const SAVED_VERSION: u32 = 71;
 pub const SAVED_COUNT: u32 = 72;
 pub const SAVED_NO_ROOM: u32 = 73;
+pub const SAVED_SIDES: u32 = 74;
 
 // Limits.
-pub const INPUT_LIMIT: usize = 67_108_864;
-pub const PLANE_LIMIT: usize = 16_777_216;
-pub const SIDE_LIMIT: u32 = 4_096;
+pub const INPUT_LIMIT: usize = 1_073_741_824;
+pub const PLANE_LIMIT: usize = 900_000_000;
+pub const SIDE_LIMIT: u32 = 30_000;
 pub const LAYER_LIMIT: u32 = 64;
 pub const ENTRY_NUMBERS: usize = 14;
 pub const SAVED_HEAD: usize = 9;
 pub const SAVED_ENTRY: usize = 56;
+pub const SAVED_SIDE: u32 = 4_096;
 
 /// An entry of the table: a block of the file. What a kind does not fill is 0. An entry of level 1
 /// or 2 lies in the last one before it that is one level up: a channel in a layer, in the selection
@@ -372,6 +374,25 @@ mod tests {
         assert_eq!(size_of::<AlphaChunk>(), 292);
         assert_eq!(size_of::<AlphaFacts>(), 296);
         assert_eq!(size_of::<Dots>(), 16);
+    }
+
+    #[test]
+    fn limits_are_those_of_the_header() {
+        let header = include_str!("../../../include/psp.h");
+        let limits = [
+            ("INPUT_LIMIT", INPUT_LIMIT),
+            ("PLANE_LIMIT", PLANE_LIMIT),
+            ("SIDE_LIMIT", SIDE_LIMIT as usize),
+            ("LAYER_LIMIT", LAYER_LIMIT as usize),
+            ("ENTRY_NUMBERS", ENTRY_NUMBERS),
+            ("SAVED_HEAD", SAVED_HEAD),
+            ("SAVED_ENTRY", SAVED_ENTRY),
+            ("SAVED_SIDE", SAVED_SIDE as usize),
+        ];
+        for (name, limit) in limits {
+            let line = format!("\n#define PSP_{} {} ", name, limit);
+            assert!(header.contains(&line), "include/psp.h: {}", line);
+        }
     }
 
     #[test]

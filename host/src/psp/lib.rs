@@ -10,7 +10,7 @@ pub mod refusal;
 
 pub use ffi::{AlphaChunk, Area, Entry, ImageChunk, LayerChunk, Rect, Resolution, SelectionChunk};
 pub use ffi::{ENTRY_NUMBERS, INPUT_LIMIT, LAYER_LIMIT, PLANE_LIMIT, SIDE_LIMIT};
-pub use ffi::{SAVED_ENTRY, SAVED_HEAD};
+pub use ffi::{SAVED_ENTRY, SAVED_HEAD, SAVED_SIDE};
 pub use refusal::{Refusal, RefusedListing, RefusedPlane};
 
 use std::fmt::{self, Display, Formatter};
@@ -109,14 +109,16 @@ pub fn intersect(a: Rect, b: Rect) -> Rect {
 }
 
 /// Writes the whole entries of a table into `dest` as a file, and gives its length: [`SAVED_HEAD`]
-/// bytes, and [`SAVED_ENTRY`] an entry. The rest of `dest` is untouched, and all of it when refused.
+/// bytes, and [`SAVED_ENTRY`] an entry. Its version is 2 where an entry has a width or height over
+/// [`SAVED_SIDE`], and otherwise 1. The rest of `dest` is untouched, and all of it when refused.
 pub fn write_table(table: &[u32], dest: &mut [u8]) -> Result<usize, Refusal> {
     let saved = numbers::write_table(table, dest);
     good(saved.number, saved.length)
 }
 
-/// Reads a saved table back into a table of numbers, fourteen an entry, and gives the count of
-/// entries. The rest of the table is untouched, and all of it when refused.
+/// Reads a saved table of version 1 or 2 back into a table of numbers, fourteen an entry, and gives
+/// the count of entries. A version that its sides would not give it is refused. The rest of the table
+/// is untouched, and all of it when refused.
 pub fn read_table(file: &[u8], table: &mut [u32]) -> Result<usize, Refusal> {
     let restored = numbers::read_table(file, table);
     good(restored.number, restored.count)

@@ -118,13 +118,15 @@ pub fn intersect(a: Rect, b: Rect) -> Rect {
     unsafe { ffi::psp_intersect(a, b) }
 }
 
-/// Writes the whole entries of a table into `dest` as a file; its rest is untouched.
+/// Writes the whole entries of a table into `dest` as a file, of the version that their sides give
+/// it; its rest is untouched.
 pub fn write_table(table: &[u32], dest: &mut [u8]) -> Saved {
     // SAFETY: both slices are valid for their lengths, and dest is borrowed alone.
     unsafe { ffi::psp_write_table(table.as_ptr(), table.len(), dest.as_mut_ptr(), dest.len()) }
 }
 
-/// Reads a saved table back into a table of numbers, fourteen an entry; its rest is untouched.
+/// Reads a saved table of version 1 or 2 back into a table of numbers, fourteen an entry; its rest is
+/// untouched.
 pub fn read_table(file: &[u8], table: &mut [u32]) -> Restored {
     // SAFETY: both slices are valid for their lengths, and the table is borrowed alone.
     unsafe { ffi::psp_read_table(file.as_ptr(), file.len(), table.as_mut_ptr(), table.len()) }

@@ -83,6 +83,7 @@ refusals! {
     SavedVersion, SAVED_VERSION, "another version of a saved table";
     SavedCount, SAVED_COUNT, "a count that is not the length's";
     SavedNoRoom, SAVED_NO_ROOM, "destination too short";
+    SavedSides, SAVED_SIDES, "a version that is not that of the sides";
 }
 
 /// A listing that was refused: why, at which place of the input (a wrong field at its first byte),
@@ -138,7 +139,7 @@ mod tests {
         let named = |number: &u32| !matches!(Refusal::of(*number), Some(Refusal::Unnamed(_)));
         let names: Vec<u32> = (0..100).filter(named).collect();
         let numbers = (0..=12).chain(20..=27).chain(30..=31).chain(40..=47);
-        let numbers = numbers.chain(70..=73);
+        let numbers = numbers.chain(70..=74);
         assert_eq!(names, numbers.collect::<Vec<u32>>());
     }
 
@@ -159,7 +160,7 @@ mod tests {
             assert!(constant.ends_with(said.as_deref().unwrap_or("")));
             count += 1;
         }
-        assert_eq!(count, 35);
+        assert_eq!(count, 36);
     }
 
     #[test]
@@ -172,6 +173,7 @@ mod tests {
         assert_eq!(Refusal::of(46), Some(Refusal::NoSelection));
         assert_eq!(Refusal::of(47), Some(Refusal::NoAlpha));
         assert_eq!(Refusal::of(70), Some(Refusal::SavedLength));
+        assert_eq!(Refusal::of(74), Some(Refusal::SavedSides));
     }
 
     #[test]

@@ -1,6 +1,7 @@
-//! Cases that no payload could hold: inputs and planes at their limits and one
-//! byte over, planes of 4,096 by 4,096 pixels of several sorts, placed in both
-//! forms, and a table of a million entries, saved and read back.
+//! Cases that no payload could hold: inputs of 64 MiB, planes of 4,096 by 4,096
+//! pixels of several sorts, placed in both forms, and tables of a million entries,
+//! saved and read back. Of inputs and planes over their limits the refusal alone:
+//! `sheets` has what is accepted there.
 
 use reference::case::{Case, Placing, Stored};
 use reference::cases::{every_listing, saved};
@@ -14,8 +15,8 @@ use reference::samples;
 use reference::write::{Form, Node};
 
 const SIDE: i32 = 4_096;
-const PLANE: usize = PLANE_LIMIT as usize;
-const INPUT: usize = INPUT_LIMIT as usize;
+const PLANE: usize = (SIDE * SIDE) as usize;
+const INPUT: usize = 64 << 20;
 
 /// Bytes past what a call writes.
 const REST: u32 = 9;
@@ -26,11 +27,11 @@ pub fn each(mut give: impl FnMut(Case)) {
     for plane in [raw, flat, photographic, alternating, paired] {
         planes(&plane(PLANE), &mut give);
     }
-    planes_over(&mut give);
+    over(&mut give);
     tables(&mut give);
 }
 
-/// Accepted files of the limit's length and one more, with two layers, a
+/// Accepted files about as long as they once could be, with two layers, a
 /// selection and two alpha channels: the last block, which is skipped, fills
 /// them. And nothing but zeros.
 fn inputs(give: &mut impl FnMut(Case)) {
@@ -94,7 +95,7 @@ fn stored(content: &[u8], code: u32, plane: usize, give: &mut impl FnMut(Case)) 
     }
 }
 
-/// As many rows of the plane as it has, on the largest canvas, moved to the
+/// As many rows of the plane as it has, on a canvas of its size, moved to the
 /// right and up.
 fn placed(plane: &[u8], width: i32, form: Form, shift: i32) -> Case {
     let row = form.row(width as u64, 8) as usize;
@@ -110,29 +111,33 @@ fn placed(plane: &[u8], width: i32, form: Form, shift: i32) -> Case {
     }
 }
 
-/// One byte over the limit, packed and read.
-fn planes_over(give: &mut impl FnMut(Case)) {
-    let plane = vec![7; PLANE + 1];
-    for destination in [0, PLANE as u32 + 1] {
+/// One byte over the limits. Each is refused before it is looked at, so nothing
+/// has to hold these zeros.
+fn over(give: &mut impl FnMut(Case)) {
+    give(Case::Listing {
+        room: 64,
+        input: vec![0; INPUT_LIMIT as usize + 1],
+    });
+    for destination in [0, REST] {
         give(Case::Pack {
             destination,
-            plane: plane.clone(),
+            plane: vec![0; PLANE_LIMIT as usize + 1],
         });
     }
-    stored(&plane, 0, plane.len(), give);
-    stored(&packed_form(&plane), 1, plane.len(), give);
 }
 
-/// A table with numbers left over, and its file, each with more room than it
-/// needs and with too little.
+/// A table of each version with numbers left over, and its file, each with more
+/// room than it needs and with too little.
 fn tables(give: &mut impl FnMut(Case)) {
     const ENTRIES: usize = 1_000_000;
-    let table = saved::table(&mut Random::new(3), ENTRIES, ENTRY_NUMBERS - 1);
-    let file = saved_form(&table);
     let numbers = ENTRIES * ENTRY_NUMBERS;
-    for (more, less) in [(REST as usize, 0), (0, 1)] {
-        give(saved::written(&table, file.len() + more - less));
-        give(saved::read(&file, numbers + more - less));
+    for table in [saved::fixed, saved::fixed_large] {
+        let table = table(ENTRIES, ENTRY_NUMBERS - 1);
+        let file = saved_form(&table);
+        for (more, less) in [(REST as usize, 0), (0, 1)] {
+            give(saved::written(&table, file.len() + more - less));
+            give(saved::read(&file, numbers + more - less));
+        }
     }
 }
 

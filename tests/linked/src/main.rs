@@ -2,11 +2,13 @@
 //! one process: the generator's cases of all kinds, listings into records and
 //! counts besides, cases too large for the generator, every packet at every place
 //! near an end, and tables too long to be saved. Then what clipping and placing
-//! owe, of the library alone.
+//! owe, of the library alone. By other words: listings only, or sheets as large as
+//! they may be.
 
 mod large;
 mod linked;
 mod long;
+mod sheets;
 
 use std::io;
 use std::process;
@@ -20,13 +22,14 @@ use reference::compare::Comparison;
 use reference::library::{Library, Reference};
 use reference::psp::listing::ENTRY_NUMBERS;
 
-const USAGE: &str = "linked SEED COUNT, or linked long SEED COUNT";
+const USAGE: &str = "linked SEED COUNT, linked long SEED COUNT, or linked sheets";
 
 fn main() {
     let words: Vec<String> = std::env::args().skip(1).collect();
     let words: Vec<&str> = words.iter().map(String::as_str).collect();
     let result = match words.as_slice() {
         ["long", seed, count] => numbers(seed, count).map(|(seed, count)| long::run(seed, count)),
+        ["sheets"] => Ok(sheets::run()),
         [seed, count] => numbers(seed, count).and_then(|(seed, count)| all(seed, count)),
         _ => Err(usage()),
     };

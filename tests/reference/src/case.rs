@@ -10,6 +10,7 @@ use crate::psp::rectangle::Rectangle;
 /// Longest payload that a program has room for.
 pub const PAYLOAD_LIMIT: usize = 4_194_304;
 pub const DESTINATION_LIMIT: u32 = 20_000;
+pub const CANVAS_LIMIT: u32 = 65_600;
 pub const ROOM_LIMIT: u32 = 512;
 
 /// Where the plane reader finds a stored channel in its input, and what it is

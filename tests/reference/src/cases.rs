@@ -24,6 +24,7 @@ pub mod saved;
 mod streams;
 pub mod sweeps;
 mod values;
+mod versions;
 
 use std::collections::HashSet;
 use std::io;
@@ -38,7 +39,7 @@ use crate::write::Picture;
 /// Longest input of a case.
 pub const INPUT_LIMIT: usize = 60_000;
 
-/// One case in so many is systematic: 206,000 cases hold all of them.
+/// One case in so many is systematic: 210,000 cases hold all of them.
 const SYSTEMATIC_EVERY: u64 = 2;
 
 /// All systematic cases, each once; no seed changes them.
@@ -60,6 +61,7 @@ pub fn systematic() -> Vec<Case> {
     canvases::all(&mut cases);
     values::all(&mut cases);
     saved::all(&mut cases);
+    versions::all(&mut cases);
     // A value tried in a field may be the one that stood there already.
     let mut seen = HashSet::new();
     cases.retain(|case| seen.insert((case.kind(), case.payload())));

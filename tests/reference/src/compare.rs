@@ -12,9 +12,9 @@ use crate::library::Reference;
 const SHOWN: u64 = 20;
 
 /// Every answer number of document 01 and of the requests that have landed.
-pub const NUMBERS: [u32; 35] = [
+pub const NUMBERS: [u32; 36] = [
     0, 1, 2, 3, 4, 5, 6, 7, 8, 9, 10, 11, 12, 20, 21, 22, 23, 24, 25, 26, 27, 30, 31, 40, 41, 42,
-    43, 44, 45, 46, 47, 70, 71, 72, 73,
+    43, 44, 45, 46, 47, 70, 71, 72, 73, 74,
 ];
 
 /// How often each number occurred, for each kind.

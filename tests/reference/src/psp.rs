@@ -1,6 +1,6 @@
-//! Document 01 with requests (i), (iv), (vi) and (vii) of document 02, written from
-//! their text: the listing of a Paint Shop Pro 3.0 file, the plane reader, the packer,
-//! the canvas, the views and the saved table.
+//! Document 01 with requests (i), (iv), (vi), (vii) and (ix) of document 02, written
+//! from their text: the listing of a Paint Shop Pro 3.0 file, the plane reader, the
+//! packer, the canvas, the views and the saved table.
 //!
 //! Nothing here aims at speed or at a small memory. Every function returns an
 //! answer for every input; sums that a file can make large are done in 64 bits.
@@ -16,7 +16,8 @@ pub mod saved;
 pub mod views;
 
 /// The answer numbers, with the names of document 01's table; behind them those
-/// of the views that request (vii) adds, and of the saved table, request (iv).
+/// of the views that request (vii) adds, and of the saved table, requests (iv) and
+/// (ix).
 pub mod number {
     pub const ACCEPTED: u32 = 0;
     pub const INPUT_OVER_LIMIT: u32 = 1;
@@ -60,11 +61,13 @@ pub mod number {
     pub const SAVED_VERSION_UNKNOWN: u32 = 71;
     pub const SAVED_COUNT_WRONG: u32 = 72;
     pub const SAVED_NO_ROOM: u32 = 73;
+    /// A side that the version does not have, or none that it is there for.
+    pub const SAVED_VERSION_DISAGREES: u32 = 74;
 }
 
-pub const INPUT_LIMIT: u64 = 67_108_864;
-pub const PLANE_LIMIT: u64 = 16_777_216;
-pub const SIDE_LIMIT: i64 = 4_096;
+pub const INPUT_LIMIT: u64 = 1_073_741_824;
+pub const PLANE_LIMIT: u64 = 900_000_000;
+pub const SIDE_LIMIT: i64 = 30_000;
 pub const LAYER_LIMIT: u16 = 64;
 pub const LEAST_COORDINATE: i32 = -32_768;
 pub const GREATEST_COORDINATE: i32 = 32_767;

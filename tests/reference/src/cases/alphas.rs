@@ -101,7 +101,7 @@ const NAMED: [Change; 30] = [
     ("its saved left off", 551, 4, u32::MAX, (8, 551, 4)),
     ("its saved upper side off", 555, 4, 2, (8, 551, 4)),
     ("its saved right past the border", 559, 4, 2, (8, 551, 4)),
-    ("its saved lower side", 563, 4, 5_000, (8, 551, 4)),
+    ("its saved lower side", 563, 4, 30_001, (8, 551, 4)),
     ("nothing saved, and a plane", 559, 4, 0, (8, 589, 5)),
     ("no bitmap in it", 567, 2, 0, (8, 567, 4)),
     ("two bitmaps in it", 567, 2, 2, (8, 567, 4)),

@@ -1,6 +1,6 @@
 //! Canvases, and rectangles on and off them, with planes of both forms.
 
-use crate::case::{Case, Placing};
+use crate::case::{Case, Placing, CANVAS_LIMIT};
 use crate::psp::rectangle::Rectangle;
 use crate::random::Random;
 use crate::write::Form;
@@ -15,7 +15,7 @@ fn rectangle(corners: [i64; 4]) -> Rectangle {
     Rectangle::new(left, top, right, bottom)
 }
 
-/// A canvas of at most 20,000 bytes and a rectangle on or off it.
+/// A canvas and a rectangle on or off it.
 pub fn canvas(random: &mut Random) -> Case {
     let (width, height) = sides(random);
     let left = random.between(-10, width + 3);
@@ -25,7 +25,7 @@ pub fn canvas(random: &mut Random) -> Case {
     spoil_rectangle(random, &mut corners);
     let (row, plane_length) = plane(random, wide, high);
     let (width, height, canvas_length) = spoil_canvas(random, width, height);
-    let canvas = random.bytes(canvas_length.clamp(0, 20_000) as usize);
+    let canvas = random.bytes(held(canvas_length));
     Case::Canvas {
         placing: Placing {
             width: width as u32,
@@ -34,25 +34,46 @@ pub fn canvas(random: &mut Random) -> Case {
             row: row as u32,
         },
         canvas,
-        plane: random.bytes(plane_length.clamp(0, 45_000) as usize),
+        plane: random.bytes(plane_length.clamp(0, 125_000) as usize),
+    }
+}
+
+/// So many bytes, or 20,000 where a case cannot hold them.
+fn held(length: i64) -> usize {
+    let holds = (0..=i64::from(CANVAS_LIMIT)).contains(&length);
+    if holds {
+        length as usize
+    } else {
+        20_000
     }
 }
 
 fn sides(random: &mut Random) -> (i64, i64) {
     match random.below(8) {
-        0 => (random.pick(&[1, 4_095, 4_096]), random.between(1, 4)),
-        1 => (random.between(1, 4), random.pick(&[1, 4_095, 4_096])),
+        0 => long_and_short(random),
+        1 => {
+            let (height, width) = long_and_short(random);
+            (width, height)
+        }
         _ => (random.between(1, 24), random.between(1, 24)),
     }
 }
 
+/// Sides whose product a case can hold.
+fn long_and_short(random: &mut Random) -> (i64, i64) {
+    let long = random.pick(&[1, 4_095, 4_096, 4_097, 29_999, 30_000]);
+    let most = (i64::from(CANVAS_LIMIT) / long).min(4);
+    (long, random.between(1, most))
+}
+
 /// The sides of the rectangle.
 fn extent(random: &mut Random) -> (i64, i64) {
+    const LONG: [i64; 5] = [4_096, 4_097, 29_999, 30_000, 30_001];
     let (wide, high) = (random.between(0, 14), random.between(0, 10));
     if random.one_in(12) {
-        (random.pick(&[4_095, 4_096, 4_097]), random.between(0, 4))
+        (random.pick(&LONG), random.between(0, 4))
     } else if random.one_in(12) {
-        (random.between(0, 4), random.pick(&[4_095, 4_096, 4_097]))
+        (random.between(0, 4), random.pick(&LONG))
     } else {
         (wide, high)
     }
@@ -100,7 +121,7 @@ fn plane(random: &mut Random, wide: i64, high: i64) -> (i64, i64) {
 
 /// Spoils a side or the canvas's length, or leaves both good.
 fn spoil_canvas(random: &mut Random, width: i64, height: i64) -> (i64, i64, i64) {
-    const SIDES: [i64; 5] = [0, 4_097, 65_536, 0x8000_0000, 0xFFFF_FFFF];
+    const SIDES: [i64; 5] = [0, 30_001, 65_536, 0x8000_0000, 0xFFFF_FFFF];
     let length = width * height;
     match random.below(24) {
         0 => (width, height, length + random.pick(&[-1, 1, width])),
@@ -133,6 +154,7 @@ pub fn all(cases: &mut Vec<Case>) {
     rows_around(cases);
     rows_that_wrap(cases);
     sides_at_limits(cases);
+    largest(cases);
     rectangles_at_limits(cases);
 }
 
@@ -207,7 +229,20 @@ fn rows_that_wrap(cases: &mut Vec<Case>) {
 
 /// Sides at their limits, with lengths right, wrong and wrapped.
 fn sides_at_limits(cases: &mut Vec<Case>) {
-    const SIDES: [u32; 9] = [0, 1, 2, 4, 4_096, 4_097, 65_536, 0x8000_0000, 0xFFFF_FFFF];
+    const SIDES: [u32; 11] = [
+        0,
+        1,
+        2,
+        4,
+        4_097,
+        29_999,
+        30_000,
+        30_001,
+        65_536,
+        0x8000_0000,
+        0xFFFF_FFFF,
+    ];
+    const MOST: u64 = CANVAS_LIMIT as u64;
     // Several refusals at once: the canvas speaks first, then the rectangle.
     let rectangles = [Rectangle::new(0, 0, 1, 1), Rectangle::new(1, 1, 0, 0)];
     for width in SIDES {
@@ -215,7 +250,7 @@ fn sides_at_limits(cases: &mut Vec<Case>) {
             let product = u64::from(width) * u64::from(height);
             let wrapped = product & 0xFFFF_FFFF;
             let lengths = [product, wrapped, product + 1, product.saturating_sub(1)];
-            for length in lengths.iter().filter(|&&length| length <= 20_000) {
+            for length in lengths.iter().filter(|&&length| length <= MOST) {
                 cases.extend(rectangles.iter().map(|&rectangle| Case::Canvas {
                     placing: Placing {
                         width,
@@ -231,20 +266,45 @@ fn sides_at_limits(cases: &mut Vec<Case>) {
     }
 }
 
+/// Rectangles about as long as the longest canvases, hanging over at each end.
+fn largest(cases: &mut Vec<Case>) {
+    for [long, corner] in pairs([29_997, 29_999, 30_000], [-29_996, -1, 0, 1, 2_767]) {
+        let lying = [corner, 0, corner + long, 1];
+        let standing = [0, corner, 1, corner + long];
+        for (corners, width, height) in [(lying, 30_000, 2), (standing, 2, 30_000)] {
+            let rectangle = rectangle(corners);
+            cases.extend(Form::BOTH.map(|form| {
+                let row = row(form, rectangle.width());
+                Case::Canvas {
+                    placing: Placing {
+                        width,
+                        height,
+                        rectangle,
+                        row: row as u32,
+                    },
+                    canvas: vec![0xEE; 60_000],
+                    plane: (0..row * rectangle.height()).map(|at| at as u8).collect(),
+                }
+            }));
+        }
+    }
+}
+
 /// Rectangles against the coordinate and side rules, planes of both forms right
 /// or not.
 fn rectangles_at_limits(cases: &mut Vec<Case>) {
-    const EDGES: [i64; 12] = [
+    const EDGES: [i64; 13] = [
         i32::MIN as i64,
         -32_769,
         -32_768,
-        -4_097,
-        -4_096,
+        -30_001,
+        -30_000,
         -1,
         0,
         1,
-        4_096,
         4_097,
+        30_000,
+        30_001,
         32_767,
         32_768,
     ];
@@ -252,8 +312,8 @@ fn rectangles_at_limits(cases: &mut Vec<Case>) {
         let lying = rectangle([low, 0, high, 1]);
         for rectangle in [lying, rectangle([0, low, 1, high])] {
             for form in Form::BOTH {
-                let row = row(form, rectangle.width().clamp(0, 4_100));
-                let length = (row * rectangle.height().clamp(0, 4_100)) as usize;
+                let row = row(form, rectangle.width().clamp(0, 30_004));
+                let length = (row * rectangle.height().clamp(0, 30_004)) as usize;
                 cases.extend((0..2).map(|more| Case::Canvas {
                     placing: Placing {
                         width: 2,

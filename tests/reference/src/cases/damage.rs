@@ -60,7 +60,9 @@ fn rectangle(random: &mut Random, picture: &mut Picture) {
         2 => &mut rectangle.right,
         _ => &mut rectangle.bottom,
     };
-    let step = random.pick(&[-4_097, -4_096, -5, -1, 1, 5, 4_096, 4_097]);
+    let step = random.pick(&[
+        -30_001, -30_000, -4_097, -5, -1, 1, 5, 4_097, 30_000, 30_001,
+    ]);
     *side = side.saturating_add(step);
 }
 

@@ -10,11 +10,12 @@ use crate::write::{Form, Image, InBank, InLayer, Layer, Picture};
 const DEPTHS: [(u16, bool); 5] = [(1, false), (4, false), (8, true), (8, false), (24, false)];
 
 /// Sides of the saved rectangles: small ones, where lengths of one form and one
-/// off the other meet and planes have no pixels; and the largest.
+/// off the other meet and planes have no pixels; one
+/// of 4,096, and the largest.
 pub fn sizes() -> Vec<[i32; 2]> {
     let small = (0..=9).flat_map(|width| (0..=3).map(move |height| [width, height]));
-    let large = (4_093..=4_096).flat_map(|width| [1, 4_096].map(|height| [width, height]));
-    small.chain(large).collect()
+    let large = (29_997..=30_000).flat_map(|width| [1, 30_000].map(|height| [width, height]));
+    small.chain([[4_095, 4_096]]).chain(large).collect()
 }
 
 pub fn all(cases: &mut Vec<Case>) {

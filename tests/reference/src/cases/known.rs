@@ -179,7 +179,7 @@ fn grid(files: &mut Vec<Known>) {
 /// those of the mask are empty and stand at 410 and 426.
 pub type Change = (&'static str, usize, usize, u32, (u32, u64, usize));
 
-const CHANGES: [Change; 18] = [
+const CHANGES: [Change; 20] = [
     ("signature", 0, 1, 112, (3, 0, 0)),
     ("version 3.1", 34, 2, 1, (4, 32, 0)),
     ("mark of the bank", 88, 1, 0, (5, 88, 1)),
@@ -196,15 +196,18 @@ const CHANGES: [Change; 18] = [
     ("two layers announced", 86, 2, 2, (10, 521, 4)),
     ("compression 2", 67, 2, 2, (11, 50, 0)),
     ("bitmap 3", 513, 2, 3, (9, 491, 3)),
+    ("width 30,000", 50, 4, 30_000, (0, 521, 4)),
+    ("height 30,000", 54, 4, 30_000, (0, 521, 4)),
     ("plane length 1, no padding", 509, 4, 1, (0, 521, 4)),
     ("empty mask outside its border", 438, 4, 5, (0, 521, 4)),
 ];
 
 /// Those that answer 8 names, each where its field stands; a rectangle at its
 /// first corner, and of two fields that do not agree the later one.
-const NAMED: [Change; 35] = [
+const NAMED: [Change; 36] = [
     ("width 0", 50, 4, 0, (8, 50, 0)),
-    ("height 4,097", 54, 4, 4_097, (8, 54, 0)),
+    ("width 30,001", 50, 4, 30_001, (8, 50, 0)),
+    ("height 30,001", 54, 4, 30_001, (8, 54, 0)),
     ("metric 3", 66, 1, 3, (8, 66, 0)),
     ("metric 1 of resolution 0", 66, 1, 1, (8, 66, 0)),
     ("metric 3 and compression 3", 66, 3, 0x303, (8, 66, 0)),
@@ -235,9 +238,9 @@ const NAMED: [Change; 35] = [
     ("left side of the saved one", 389, 4, u32::MAX, (8, 389, 2)),
     ("upper side of the saved one", 393, 4, 2, (8, 389, 2)),
     ("saved outside its border", 397, 4, 2, (8, 389, 2)),
-    ("lower side of the saved one", 401, 4, 5_000, (8, 389, 2)),
+    ("lower side of the saved one", 401, 4, 30_001, (8, 389, 2)),
     ("upper side of the mask", 414, 4, 1, (8, 410, 2)),
-    ("right side of the saved mask", 434, 4, 4_097, (8, 426, 2)),
+    ("right side of the saved mask", 434, 4, 30_001, (8, 426, 2)),
     ("six blend ranges", 445, 2, 6, (8, 445, 2)),
     ("no bitmap", 487, 2, 0, (8, 487, 2)),
     ("no bitmap and no channel", 487, 4, 0, (8, 487, 2)),

@@ -299,10 +299,10 @@ impl Block<'_> {
 
 const IMAGE: [Change; 20] = [
     (0, 4, 0),
-    (0, 4, 4_097),
+    (0, 4, 30_001),
     (0, 4, -1),
     (4, 4, 0),
-    (4, 4, 4_097),
+    (4, 4, 30_001),
     (16, 1, 3),
     (16, 1, 255),
     (17, 2, 3),
@@ -429,9 +429,9 @@ fn sides(at: usize, border: [i32; 4], axis: usize) -> Vec<Fault> {
             (
                 saved,
                 &[
-                    border_high(from + 4_097),
+                    border_high(from + 30_001),
                     saved_low(from),
-                    saved_high(from + 4_097),
+                    saved_high(from + 30_001),
                 ],
             ),
         ],

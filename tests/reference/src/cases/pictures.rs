@@ -122,7 +122,7 @@ fn skip(random: &mut Random, main: &mut Vec<Main>) {
 
 fn side(random: &mut Random) -> u32 {
     let small = random.between(1, 40) as u32;
-    random.pick(&[1, 2, small, small, small, 4_095, 4_096])
+    random.pick(&[1, 2, small, small, small, 4_096, 29_999, 30_000])
 }
 
 fn resolution(random: &mut Random, image: &mut Image) {
@@ -300,8 +300,8 @@ fn rectangles(random: &mut Random, plain: bool) -> (Rectangle, Rectangle) {
     } else if random.one_in(12) {
         // Planes too long to be stored here: the content is cut short.
         (
-            random.pick(&[0, 1, 4_095, 4_096]),
-            random.pick(&[0, 1, 4_095, 4_096]),
+            random.pick(&[0, 1, 4_096, 29_999, 30_000]),
+            random.pick(&[0, 1, 4_096, 29_999, 30_000]),
         )
     } else {
         (random.between(0, 12), random.between(0, 8))

@@ -74,8 +74,8 @@ fn nearly(random: &mut Random, stored: Stored, end: u64) -> Stored {
         _ => around(random, stored.length),
     };
     let plane = match random.below(16) {
-        0 => 16_777_216,
-        1 => 16_777_217,
+        0 => 900_000_000,
+        1 => 900_000_001,
         _ => around(random, stored.plane),
     };
     let code = if random.one_in(8) {
@@ -96,7 +96,7 @@ fn nearly(random: &mut Random, stored: Stored, end: u64) -> Stored {
 pub fn all(cases: &mut Vec<Case>) {
     let starts = [0, 2, 3, 6, 7, 1 << 32, 1 << 63, u64::MAX];
     let lengths = [0, 3, 4, 5, (1 << 32) + 4, 1 << 63, u64::MAX - 1, u64::MAX];
-    let planes = [0, 3, 4, 16_777_216, 16_777_217, 1 << 32, u64::MAX];
+    let planes = [0, 3, 4, 900_000_000, 900_000_001, 1 << 32, u64::MAX];
     let input = [1, 9, 2, 131, 5, 0, 4];
     for &start in &starts {
         for (place, &length) in lengths.iter().enumerate() {

@@ -82,8 +82,10 @@ fn planes(rows: &mut Rows) {
     push(1, 4, 2, 1, "P 23 0 0");
     push(0, 6, 6, 0, "P 20 0 0");
     push(3, 3, 4, 0, "P 25 0 0");
-    push(9, 9, 16_777_217, 2, "P 24 0 0");
-    push(9, 9, 16_777_217, 0, "P 26 0 0");
+    push(9, 9, 900_000_001, 2, "P 24 0 0");
+    push(9, 9, 900_000_001, 0, "P 26 0 0");
+    push(9, 9, 900_000_000, 0, "P 27 0 0");
+    push(0, 6, 900_000_000, 0, "P 20 0 0");
     push(6, 1, 9, 0, "P 27 0 0");
     push(u64::MAX, u64::MAX, 1, 1, "P 27 0 0");
 }
@@ -252,7 +254,9 @@ fn alphas(rows: &mut Rows) {
     );
 }
 
-/// A table of one entry and one number more, and one of thirteen numbers.
+/// A table of one entry and one number more, and one of thirteen numbers. Then
+/// the versions, which the hashes tell apart: a height of 30,000, sides of 4,096,
+/// and large numbers that are no entry.
 fn tables(rows: &mut Rows) {
     let mut push = |numbers, destination, line| {
         let table: Vec<u32> = (1..=numbers).collect();
@@ -265,6 +269,15 @@ fn tables(rows: &mut Rows) {
     push(13, 8, "W 73 0");
     push(0, 9, "W 0 9");
     push(0, 0, "W 73 0");
+    let mut push = |table: &[u32], destination, line| {
+        rows.push((saved::written(table, destination), line));
+    };
+    push(&LARGE_ENTRY, 65, "W 0 65 1395363058");
+    push(&LARGE_ENTRY, 64, "W 73 0");
+    let mut entry = LARGE_ENTRY;
+    entry[11] = 4_096;
+    push(&entry, 65, "W 0 65 3313261746");
+    push(&[u32::MAX; 13], 9, "W 0 9 568259045");
 }
 
 /// The file of an entry of the numbers 1 to 14.
@@ -275,27 +288,49 @@ pub const SAVED: [u8; 65] = [
     0, 0, 0, 8, 0, 0, 0, 9, 0, 0, 0, 10, 0, 0, 0, 11, 0, 0, 0, 12, 0, 0, 0, 13, 0, 0, 0, 14,
 ];
 
-/// That file, as it is and with the bytes before its entry changed, in rooms for
-/// one entry and for none; then files without an entry. Each refusal, in the order
-/// of the tests.
+/// An entry with a height of 30,000, which makes its table one of version 2.
+pub const LARGE_ENTRY: [u32; 14] = [1, 2, 3, 4, 5, 6, 7, 8, 9, 10, 4_096, 30_000, 13, 14];
+
+/// Its file. 4,096 is 16 times 256, and 30,000 is 117 times 256 and 48.
+#[rustfmt::skip] // the head, then the entry
+pub const SAVED_LARGE: [u8; 65] = [
+    0, 0, 0, 61, 2, 0, 0, 0, 1,
+    0, 0, 0, 1, 0, 0, 0, 2, 0, 0, 0, 3, 0, 0, 0, 4, 0, 0, 0, 5, 0, 0, 0, 6, 0, 0, 0, 7,
+    0, 0, 0, 8, 0, 0, 0, 9, 0, 0, 0, 10, 0, 0, 16, 0, 0, 0, 117, 48, 0, 0, 0, 13, 0, 0, 0, 14,
+];
+
+/// The file without a large side, as it is and with the bytes before its entry
+/// changed, in rooms for one entry and for none; then the one with a large side,
+/// and files without an entry. Each refusal, in the order of the tests.
 fn files(rows: &mut Rows) {
-    let mut push = |head: [u8; 9], numbers, line| {
-        let mut file = SAVED;
+    let mut push = |entry: &[u8; 65], head: [u8; 9], numbers, line| {
+        let mut file = *entry;
         file[..9].copy_from_slice(&head);
         rows.push((saved::read(&file, numbers), line));
     };
-    push([0, 0, 0, 61, 1, 0, 0, 0, 1], 14, "R 0 1");
-    push([0, 0, 0, 61, 1, 0, 0, 0, 1], 27, "R 0 1");
-    push([0, 0, 0, 61, 1, 0, 0, 0, 1], 13, "R 73 0");
-    push([0, 0, 0, 61, 1, 0, 0, 0, 2], 13, "R 72 0");
-    push([0, 0, 0, 61, 1, 32, 0, 0, 1], 14, "R 72 0");
-    push([0, 0, 0, 61, 2, 0, 0, 0, 2], 13, "R 71 0");
-    push([0, 0, 0, 61, 0, 0, 0, 0, 1], 14, "R 71 0");
-    push([0, 0, 0, 65, 2, 0, 0, 0, 2], 13, "R 70 0");
-    push([61, 0, 0, 0, 1, 0, 0, 0, 1], 14, "R 70 0");
-    push([0, 0, 0, 5, 1, 0, 0, 0, 0], 14, "R 70 0");
+    push(&SAVED, [0, 0, 0, 61, 1, 0, 0, 0, 1], 14, "R 0 1");
+    push(&SAVED, [0, 0, 0, 61, 1, 0, 0, 0, 1], 27, "R 0 1");
+    push(&SAVED, [0, 0, 0, 61, 1, 0, 0, 0, 1], 13, "R 73 0");
+    push(&SAVED, [0, 0, 0, 61, 2, 0, 0, 0, 1], 13, "R 74 0");
+    push(&SAVED, [0, 0, 0, 61, 2, 0, 0, 0, 1], 14, "R 74 0");
+    push(&SAVED, [0, 0, 0, 61, 1, 0, 0, 0, 2], 13, "R 72 0");
+    push(&SAVED, [0, 0, 0, 61, 2, 0, 0, 0, 2], 13, "R 72 0");
+    push(&SAVED, [0, 0, 0, 61, 1, 32, 0, 0, 1], 14, "R 72 0");
+    push(&SAVED, [0, 0, 0, 61, 3, 0, 0, 0, 2], 13, "R 71 0");
+    push(&SAVED, [0, 0, 0, 61, 0, 0, 0, 0, 1], 14, "R 71 0");
+    push(&SAVED, [0, 0, 0, 65, 3, 0, 0, 0, 2], 13, "R 70 0");
+    push(&SAVED, [61, 0, 0, 0, 1, 0, 0, 0, 1], 14, "R 70 0");
+    push(&SAVED, [0, 0, 0, 5, 1, 0, 0, 0, 0], 14, "R 70 0");
+    push(&SAVED_LARGE, [0, 0, 0, 61, 2, 0, 0, 0, 1], 14, "R 0 1");
+    push(&SAVED_LARGE, [0, 0, 0, 61, 2, 0, 0, 0, 1], 13, "R 73 0");
+    push(&SAVED_LARGE, [0, 0, 0, 61, 1, 0, 0, 0, 1], 13, "R 74 0");
+    push(&SAVED_LARGE, [0, 0, 0, 61, 1, 0, 0, 0, 0], 13, "R 72 0");
+    push(&SAVED_LARGE, [0, 0, 0, 61, 3, 0, 0, 0, 0], 13, "R 71 0");
+    push(&SAVED_LARGE, [0, 0, 0, 60, 3, 0, 0, 0, 0], 13, "R 70 0");
     let mut short = |file: &[u8], line| rows.push((saved::read(file, 0), line));
     short(&[0, 0, 0, 5, 1, 0, 0, 0, 0], "R 0 0");
+    short(&[0, 0, 0, 5, 2, 0, 0, 0, 0], "R 74 0");
+    short(&[0, 0, 0, 5, 2, 0, 0, 0, 1], "R 72 0");
     short(&[0, 0, 0, 5, 1, 0, 0, 0, 1], "R 72 0");
     short(&[0, 0, 0, 6, 1, 0, 0, 0, 0, 0], "R 72 0");
     short(&[0, 0, 0, 4, 1, 0, 0, 0], "R 70 0");

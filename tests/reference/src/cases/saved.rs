@@ -9,27 +9,33 @@ use crate::psp::saved::saved_form;
 use crate::random::Random;
 use crate::samples;
 
+/// Where width and height stand among the numbers of an entry.
+pub const SIDES: [usize; 2] = [10, 11];
+
+/// The greatest side of version 1.
+pub const SMALL: u32 = 4_096;
+
 /// A saved table by its fields, which need not agree.
 #[derive(Clone)]
-struct Saved {
-    length: u32,
-    version: u8,
-    count: u32,
-    entries: Vec<u32>,
+pub struct Saved {
+    pub length: u32,
+    pub version: u8,
+    pub count: u32,
+    pub entries: Vec<u32>,
 }
 
 impl Saved {
     /// The true one of whole entries.
-    fn of(entries: Vec<u32>) -> Saved {
+    pub fn of(entries: Vec<u32>) -> Saved {
         Saved {
             length: 5 + 4 * entries.len() as u32,
-            version: 1,
+            version: saved_form(&entries)[4],
             count: (entries.len() / ENTRY_NUMBERS) as u32,
             entries,
         }
     }
 
-    fn bytes(&self) -> Vec<u8> {
+    pub fn bytes(&self) -> Vec<u8> {
         let mut bytes = self.length.to_be_bytes().to_vec();
         bytes.push(self.version);
         let numbers = [self.count].into_iter().chain(self.entries.clone());
@@ -47,19 +53,48 @@ fn mend(file: &mut [u8]) {
 }
 
 /// So many entries and numbers left over. Some of the numbers tell the order of
-/// their bytes, some are full of ones or zeros.
+/// their bytes, some are full of ones or zeros. Most tables are of version 1, and
+/// some of the others by one side alone.
 pub fn table(random: &mut Random, entries: usize, rest: usize) -> Vec<u32> {
     let number = |_| {
         let any = random.next() as u32;
         let small = any % 600;
         random.pick(&[any, any, small, 0, u32::MAX, 0x80, 0x8000_0000, 0x0102_0304])
     };
-    (0..entries * ENTRY_NUMBERS + rest).map(number).collect()
+    let numbers = entries * ENTRY_NUMBERS + rest;
+    let mut table: Vec<u32> = (0..numbers).map(number).collect();
+    let turn = random.below(5);
+    if turn > 0 {
+        make_small(&mut table);
+    }
+    if turn == 1 && entries > 0 {
+        let at = random.index(entries) * ENTRY_NUMBERS + random.pick(&SIDES);
+        table[at] = random.pick(&[SMALL, SMALL + 1, 30_000, u32::MAX]);
+    }
+    table
 }
 
-/// The same tables each time, for the systematic cases.
-fn fixed(entries: usize, rest: usize) -> Vec<u32> {
-    table(&mut Random::new(4), entries, rest)
+/// Makes every side one of version 1. What is left over stays as it is.
+fn make_small(table: &mut [u32]) {
+    for entry in table.chunks_exact_mut(ENTRY_NUMBERS) {
+        for side in SIDES {
+            entry[side] %= SMALL + 1;
+        }
+    }
+}
+
+/// The same tables each time, for the systematic cases, of version 1.
+pub fn fixed(entries: usize, rest: usize) -> Vec<u32> {
+    let mut table = table(&mut Random::new(4), entries, rest);
+    make_small(&mut table);
+    table
+}
+
+/// The same of version 2, by the last height alone; there has to be an entry.
+pub fn fixed_large(entries: usize, rest: usize) -> Vec<u32> {
+    let mut table = fixed(entries, rest);
+    table[(entries - 1) * ENTRY_NUMBERS + SIDES[1]] = SMALL + 1;
+    table
 }
 
 pub fn written(table: &[u32], destination: usize) -> Case {
@@ -136,25 +171,34 @@ fn damage_once(random: &mut Random, file: &mut Vec<u8>) {
 /// The systematic cases.
 pub fn all(cases: &mut Vec<Case>) {
     for entries in 0..=3 {
-        cut_and_grown(entries, cases);
-        wrong_fields(entries, cases);
-        wrong_together(entries, cases);
-        rooms(entries, cases);
+        let table = fixed(entries, 0);
+        cut_and_grown(&table, cases);
+        wrong_fields(&table, cases);
+        wrong_together(&table, cases);
+        rooms(&table, cases);
     }
-    turned_bits(cases);
-    for entries in 0..=4 {
-        destinations(entries, cases);
+    cut_and_grown(&fixed_large(2, 0), cases);
+    wrong_fields(&fixed_large(1, 0), cases);
+    for entries in 1..=2 {
+        wrong_together(&fixed_large(entries, 0), cases);
     }
+    for entries in 1..=3 {
+        rooms(&fixed_large(entries, 0), cases);
+    }
+    for table in [fixed(1, 0), fixed_large(1, 0)] {
+        turned_bits(&table, cases);
+    }
+    all_destinations(cases);
     of_samples(cases);
     large(cases);
 }
 
 /// Files of every length up to the whole and three bytes more, as they are and
 /// with a true length.
-fn cut_and_grown(entries: usize, cases: &mut Vec<Case>) {
-    let whole = saved_form(&fixed(entries, 0));
+fn cut_and_grown(table: &[u32], cases: &mut Vec<Case>) {
+    let whole = saved_form(table);
     for length in 0..=whole.len() + 3 {
-        let numbers = entries * ENTRY_NUMBERS + length % ENTRY_NUMBERS;
+        let numbers = table.len() + length % ENTRY_NUMBERS;
         let mut file = whole.clone();
         file.resize(length, 0);
         cases.push(read(&file, numbers));
@@ -166,7 +210,7 @@ fn cut_and_grown(entries: usize, cases: &mut Vec<Case>) {
 /// Lengths and counts that none of these files has.
 const HUGE: [u32; 4] = [0x7FFF_FFFF, 0x8000_0000, 0xFFFF_FFFE, 0xFFFF_FFFF];
 
-const VERSIONS: [u8; 8] = [0, 2, 3, 0x10, b'1', 0x80, 0x81, 0xFF];
+const VERSIONS: [u8; 9] = [0, 1, 2, 3, 0x10, b'1', 0x80, 0x81, 0xFF];
 
 /// Lengths off by a byte, a field and an entry, of other parts of the file, and
 /// of another order of bytes.
@@ -214,8 +258,8 @@ const VERSION: fn(&mut Saved, u8) = |file, version| file.version = version;
 const COUNT: fn(&mut Saved, u32) = |file, count| file.count = count;
 
 /// Every field wrong in every way, the others true.
-fn wrong_fields(entries: usize, cases: &mut Vec<Case>) {
-    let file = Saved::of(fixed(entries, 0));
+fn wrong_fields(table: &[u32], cases: &mut Vec<Case>) {
+    let file = Saved::of(table.to_vec());
     let (length, count) = (file.length, file.count);
     let file = [file];
     read_twice(&each(&file, &lengths(length), LENGTH), cases);
@@ -224,27 +268,27 @@ fn wrong_fields(entries: usize, cases: &mut Vec<Case>) {
 }
 
 /// Every field true or wrong, with every other.
-fn wrong_together(entries: usize, cases: &mut Vec<Case>) {
-    let file = Saved::of(fixed(entries, 0));
+fn wrong_together(table: &[u32], cases: &mut Vec<Case>) {
+    let file = Saved::of(table.to_vec());
     let (length, count) = (file.length, file.count);
     let lengths = [length, length + 56, length - 1, u32::MAX];
     let counts = [count, count + 1, count.wrapping_sub(1), count + (1 << 29)];
     let files = each(&[file], &lengths, LENGTH);
-    let files = each(&files, &[1, 0, 2], VERSION);
+    let files = each(&files, &[1, 0, 2, 3], VERSION);
     read_twice(&each(&files, &counts, COUNT), cases);
 }
 
 /// Tables of every size up to one entry more than needed, and all but one number
 /// of another.
-fn rooms(entries: usize, cases: &mut Vec<Case>) {
-    let file = saved_form(&fixed(entries, 0));
-    let most = (entries + 2) * ENTRY_NUMBERS;
+fn rooms(table: &[u32], cases: &mut Vec<Case>) {
+    let file = saved_form(table);
+    let most = table.len() + 2 * ENTRY_NUMBERS;
     cases.extend((0..most).map(|numbers| read(&file, numbers)));
 }
 
 /// Every bit of all that stands before the entries, and one of each byte of them.
-fn turned_bits(cases: &mut Vec<Case>) {
-    let file = saved_form(&fixed(1, 0));
+fn turned_bits(table: &[u32], cases: &mut Vec<Case>) {
+    let file = saved_form(table);
     let of_head = (0..9).flat_map(|at| (0..8).map(move |bit| (at, bit)));
     let of_entry = (9..file.len()).map(|at| (at, at % 8));
     for (at, bit) in of_head.chain(of_entry) {
@@ -254,16 +298,27 @@ fn turned_bits(cases: &mut Vec<Case>) {
     }
 }
 
-/// Tables with up to thirteen numbers left over; destinations of nothing, about
-/// the smallest file and about the table's.
-fn destinations(entries: usize, cases: &mut Vec<Case>) {
-    for rest in 0..ENTRY_NUMBERS {
-        let table = fixed(entries, rest);
-        let length = saved_form(&table).len();
-        let near = [length - 4, length - 1, length, length + 1, length + 3];
-        for destination in near.into_iter().chain([0, 1, 8, 9, length + 56]) {
-            cases.push(written(&table, destination));
+/// Tables with up to thirteen numbers left over, and of version 2 with none or
+/// thirteen.
+fn all_destinations(cases: &mut Vec<Case>) {
+    for entries in 0..=4 {
+        for rest in 0..ENTRY_NUMBERS {
+            destinations(&fixed(entries, rest), cases);
         }
+    }
+    for entries in 1..=4 {
+        for rest in [0, ENTRY_NUMBERS - 1] {
+            destinations(&fixed_large(entries, rest), cases);
+        }
+    }
+}
+
+/// Destinations of nothing, about the smallest file and about the table's.
+fn destinations(table: &[u32], cases: &mut Vec<Case>) {
+    let length = saved_form(table).len();
+    let near = [length - 4, length - 1, length, length + 1, length + 3];
+    for destination in near.into_iter().chain([0, 1, 8, 9, length + 56]) {
+        cases.push(written(table, destination));
     }
 }
 

@@ -109,7 +109,7 @@ impl Parent {
     }
 
     /// The plane of an expected channel. The parent's chunk has been judged:
-    /// sides are 0 to 4,096.
+    /// sides are 0 to 30,000.
     pub fn plane(&self, chunk: &ChannelChunk, image: &ImageChunk) -> Plane {
         let saved = match &self.kind {
             Kind::Layer(layer) if chunk.bitmap == 2 => layer.chunk.mask_saved,

@@ -43,7 +43,7 @@ impl Rectangle {
     }
 
     /// The rules of a saved rectangle that look at nothing else: those of
-    /// every rectangle, and sides of at most 4,096.
+    /// every rectangle, and sides of at most 30,000.
     pub fn is_permitted_as_saved(&self) -> bool {
         self.is_permitted() && self.width() <= SIDE_LIMIT && self.height() <= SIDE_LIMIT
     }

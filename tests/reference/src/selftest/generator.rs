@@ -3,15 +3,15 @@
 
 use super::{unpacked, Checks};
 use crate::answers::answer;
-use crate::case::{Case, DESTINATION_LIMIT, PAYLOAD_LIMIT, ROOM_LIMIT};
+use crate::case::{Case, CANVAS_LIMIT, DESTINATION_LIMIT, PAYLOAD_LIMIT, ROOM_LIMIT};
 use crate::cases;
 use crate::library::Reference;
 use crate::psp::listing::ENTRY_NUMBERS;
 use crate::random::Random;
 
 pub fn all(checks: &mut Checks, systematic: &[Case]) {
-    let few_enough = systematic.len() <= 103_000;
-    checks.that("206,000 cases hold all systematic ones", few_enough);
+    let few_enough = systematic.len() <= 105_000;
+    checks.that("210,000 cases hold all systematic ones", few_enough);
     let family = || cases::family(&mut Random::new(7), 20);
     checks.that("the same family again", family() == family());
     edges(checks);
@@ -63,7 +63,11 @@ fn one(checks: &mut Checks, case: &Case) {
     let (room, input, buffer) = sizes(case);
     checks.that("a room", room <= ROOM_LIMIT);
     checks.that("an input's length", input <= cases::INPUT_LIMIT);
-    checks.that("a buffer's length", buffer <= DESTINATION_LIMIT);
+    let most = match case {
+        Case::Canvas { .. } => CANVAS_LIMIT,
+        _ => DESTINATION_LIMIT,
+    };
+    checks.that("a buffer's length", buffer <= most);
     let line = answer(&Reference, case).line;
     checks.that("a plain line", line.is_ascii() && !line.contains('\n'));
 }

@@ -225,7 +225,7 @@ fn rectangles(checks: &mut Checks) {
     let empty = [
         ("out of range", far, (8, 426)),
         ("elsewhere", Rectangle::new(500, 500, 500, 600), GOOD),
-        ("too long", Rectangle::new(0, 0, 0, 4_097), (8, 426)),
+        ("too long", Rectangle::new(0, 0, 0, 30_001), (8, 426)),
         ("out of order", Rectangle::new(0, 1, 0, 0), (8, 426)),
     ];
     for (name, mask, expected) in empty {
@@ -234,9 +234,16 @@ fn rectangles(checks: &mut Checks) {
     }
     let larger = with(&|layer| {
         layer.image_border = wide;
-        layer.image_saved = Rectangle::new(0, 0, 4_096, 4_096);
+        layer.image_saved = Rectangle::new(0, 0, 30_000, 30_000);
     });
     checks.equal("larger than the image", larger, GOOD);
+    for saved in [[30_001, 1], [1, 30_001]] {
+        let longer = with(&|layer| {
+            layer.image_border = wide;
+            layer.image_saved = Rectangle::new(0, 0, saved[0], saved[1]);
+        });
+        checks.equal("longer by one", longer, (8, 389));
+    }
 }
 
 /// Totals of main blocks, and sums past 32 bits.
@@ -268,7 +275,8 @@ fn short_inputs(checks: &mut Checks) {
     checks.listing("nothing", &[], (2, 0, 0));
     checks.listing("36 good bytes", &whole[..36], (2, 36, 0));
     checks.listing("36 bad bytes", &[0; 36], (3, 0, 0));
-    let limit = 67_108_864;
+    // Zeros that nothing touches take no memory.
+    let limit = 1_073_741_824;
     let mut input = vec![0; limit + 1];
     checks.listing("over the limit", &input, (1, 0, 0));
     input.truncate(limit);

@@ -40,8 +40,8 @@ fn plane_reader(checks: &mut Checks) {
     checks.equal("a wrapping sum", reading(u64::MAX, 2, 1, 0, 9), (27, 0, 0));
     checks.equal("a raw plane", reading(1, 3, 3, 0, 9), (0, 3, 3));
     checks.equal("24 first", reading(9, 9, u64::MAX, 2, 0), (24, 0, 0));
-    checks.equal("26 next", reading(9, 9, 16_777_217, 0, 0), (26, 0, 0));
-    checks.equal("27 next", reading(9, 9, 16_777_216, 0, 0), (27, 0, 0));
+    checks.equal("26 next", reading(9, 9, 900_000_001, 0, 0), (26, 0, 0));
+    checks.equal("27 next", reading(9, 9, 900_000_000, 0, 0), (27, 0, 0));
     checks.equal("20 next", reading(0, 4, 3, 0, 2), (20, 0, 0));
     checks.equal("25 next", reading(0, 4, 3, 0, 3), (25, 0, 0));
     checks.equal("20 for run lengths", reading(0, 4, 3, 1, 2), (20, 0, 0));
@@ -80,7 +80,8 @@ fn packer(checks: &mut Checks) {
 fn placing(checks: &mut Checks) {
     let mut canvas = [0xEE; 4];
     let off = Rectangle::new(32_766, -9, 32_767, -8);
-    let wide = Rectangle::new(0, 0, 4_097, 0);
+    let wide = Rectangle::new(0, 0, 30_001, 0);
+    let widest = Rectangle::new(0, 0, 30_000, 0);
     let one = Rectangle::new(0, 0, 1, 1);
     let empty = Rectangle::new(0, 0, 2, 0);
     let mut check = |name, height, saved, plane: &[u8], row, number| {
@@ -93,6 +94,8 @@ fn placing(checks: &mut Checks) {
     check("nothing, padded", 2, empty, &[], 4, 0);
     check("canvas first", 3, wide, &[0], 9, 40);
     check("too wide", 2, wide, &[], 9, 41);
+    check("as wide as can be", 2, widest, &[], 9, 42);
+    check("canvas too high", 30_001, one, &[0; 4], 4, 40);
     check("plane length", 2, one, &[0], 4, 42);
     check("plane length without padding", 2, one, &[0; 4], 1, 42);
     check("a row of no form", 2, one, &[0; 2], 2, 42);

@@ -3,8 +3,8 @@
 
 use super::Checks;
 use crate::case::Case;
-use crate::cases::rows::SAVED;
-use crate::cases::saved::{any, table};
+use crate::cases::rows::{LARGE_ENTRY, SAVED, SAVED_LARGE};
+use crate::cases::saved::{any, fixed, fixed_large, table, SIDES};
 use crate::psp::listing::ENTRY_NUMBERS;
 use crate::psp::saved::{length_field, read_table, write_table};
 use crate::random::Random;
@@ -18,18 +18,33 @@ pub fn all(checks: &mut Checks, compared: &[Case]) {
     too_long(checks);
     for entries in 0..5 {
         for rest in 0..ENTRY_NUMBERS {
-            let table = table(&mut Random::new(9), entries, rest);
-            writing(checks, &table);
-            there_and_back(checks, &table);
+            tables(checks, entries, rest);
         }
     }
     changed_bytes(checks);
+    sides(checks);
+    versions(checks);
     let mut random = Random::new(9);
     let made: Vec<Case> = (0..3_000).map(|_| any(&mut random)).collect();
     for case in compared.iter().chain(&made) {
         if let Case::ReadTable { numbers, file } = case {
             one_file(checks, file, *numbers as usize);
         }
+    }
+}
+
+/// Tables of any numbers, of version 1, and of version 2 by one number.
+fn tables(checks: &mut Checks, entries: usize, rest: usize) {
+    let mut tables = vec![
+        table(&mut Random::new(9), entries, rest),
+        fixed(entries, rest),
+    ];
+    if entries > 0 {
+        tables.push(fixed_large(entries, rest));
+    }
+    for table in tables {
+        writing(checks, &table);
+        there_and_back(checks, &table);
     }
 }
 
@@ -55,6 +70,10 @@ fn worked(checks: &mut Checks) {
     let empty = vec![0, 0, 0, 5, 1, 0, 0, 0, 0];
     checks.equal("no entry", written(&[7; 13], 9), (0, 9, empty.clone()));
     checks.equal("and back", read(&empty, 0), (0, 0, Vec::new()));
+    let expected = (0, 65, SAVED_LARGE.to_vec());
+    checks.equal("a large side", written(&LARGE_ENTRY, 65), expected);
+    let entry = LARGE_ENTRY.to_vec();
+    checks.equal("and back", read(&SAVED_LARGE, 14), (0, 1, entry));
     let ordered = written(&[0x0102_0304; 14], 65).2;
     checks.equal("big-endian", &ordered[9..14], &[1, 2, 3, 4, 1][..]);
 }
@@ -97,17 +116,65 @@ fn there_and_back(checks: &mut Checks, table: &[u32]) {
 }
 
 /// Every byte before the entry with every value: of the length and of the count
-/// the true one alone, and of the version.
+/// the true one alone, and of the version; the other version has its own refusal.
 fn changed_bytes(checks: &mut Checks) {
-    for at in 0..9 {
-        let number = [70, 70, 70, 70, 71, 72, 72, 72, 72][at];
-        for byte in 0..=255 {
-            let mut file = SAVED;
-            file[at] = byte;
-            let expected = if file == SAVED { 0 } else { number };
-            checks.equal("a byte changed", read(&file, 14).0, expected);
+    for (whole, other) in [(SAVED, 2), (SAVED_LARGE, 1)] {
+        for at in 0..9 {
+            let number = [70, 70, 70, 70, 71, 72, 72, 72, 72][at];
+            for byte in 0..=255 {
+                let mut file = whole;
+                file[at] = byte;
+                let expected = match byte {
+                    _ if file == whole => 0,
+                    _ if at == 4 && byte == other => 74,
+                    _ => number,
+                };
+                checks.equal("a byte changed", read(&file, 14).0, expected);
+            }
         }
     }
+}
+
+/// Numbers about 4,096 at every place of two entries and behind them: the version
+/// that is written, by width and height alone.
+fn sides(checks: &mut Checks) {
+    for at in 0..3 * 14 - 1 {
+        for (number, large) in [(4_095, 1), (4_096, 1), (4_097, 2), (u32::MAX, 2)] {
+            let mut table = vec![0; 3 * 14 - 1];
+            table[at] = number;
+            let is_side = at < 2 * 14 && SIDES.contains(&(at % 14));
+            let version = if is_side { large } else { 1 };
+            let file = written(&table, 121).2;
+            checks.equal("a version", (at, file[4]), (at, version));
+        }
+    }
+}
+
+/// Both versions of what is there, and of nothing; the rest is the same.
+fn versions(checks: &mut Checks) {
+    for version in 0..=255 {
+        let mut empty = [0, 0, 0, 5, 1, 0, 0, 0, 0];
+        empty[4] = version;
+        let number = match version {
+            1 => 0,
+            2 => 74,
+            _ => 71,
+        };
+        checks.equal("no entry", read(&empty, 14).0, number);
+    }
+    let mut small = LARGE_ENTRY;
+    small[11] = 4_096;
+    let mut file = written(&small, 65).2;
+    checks.equal("no large side", read(&file, 14).0, 0);
+    file[4] = 2;
+    checks.equal("said to have one", read(&file, 13).0, 74);
+    file[4] = 1;
+    // The last byte of the height: 4,097.
+    file[9 + 4 * 11 + 3] = 1;
+    checks.equal("not said to have one", read(&file, 13).0, 74);
+    file[4] = 2;
+    checks.equal("no room for it", read(&file, 13).0, 73);
+    checks.equal("a large side by one", read(&file, 14).0, 0);
 }
 
 /// An accepted file is the one that writing makes of what was read, and a refusal

@@ -8,16 +8,16 @@ use Rattle.saved.proofs.writer.write_table.Statement.{statement}
 use Rattle.saved.proofs.writer.write_table.Tie as tie
 
 returns : tie.Need-returns
-returns c = sym (write-over-long _ _ (c .if1 .taken))
+returns c = sym (write-over-long _ _ _ (c .if1 .taken))
 
 returns-2 : tie.Need-returns-2
-returns-2 c = sym (write-no-room _ _ (c .before .if1 .left) (c .if2 .taken))
+returns-2 c = sym (write-no-room _ _ _ (c .before .if1 .left) (c .if2 .taken))
 
 returns-3 : tie.Need-returns-3
 returns-3 c =
     let put = c .before .before in
     let tested = put .before .before in
-    ap (writeResult (Whole _)) (put .put-file .ensures) ∙ sym (write-whole _ _ (tested .before .if1 .left) (tested .if2 .left))
+    ap (writeResult (Whole _)) (put .put-file .ensures) ∙ sym (write-whole _ _ _ (tested .before .if1 .left) (tested .if2 .left))
 
 pub write-table-spec : {M : Type 1} → statement M
 write-table-spec =
