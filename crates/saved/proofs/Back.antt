@@ -35,7 +35,7 @@ numbers-said front (n ∷ ns) at e (both small all) =
     (ap (λ (l : List ℕ). numbersAt (length ns) l (at + 4)) (sym (append-assoc front (bigBytesOf 4 n) (inBytes ns)))
     ∙ numbers-said (front ++ bigBytesOf 4 n) ns (at + 4) further all)
 
--- of a version that a byte can say
+-- in any version
 module _ (v : ℕ) (table : List ℕ) (fits : entriesIn table ≤ largest) where
   abbrev count : List ℕ
   count = bigBytesOf 4 (entriesIn table)

@@ -33,7 +33,7 @@ use Rattle.saved.proofs.reader.read_table.Reads as read
 -- of writing: the length fits, and there was room
 module _ (v : ℕ) (table dest : List ℕ) (good : writesAs v table dest .told .number ≡ 0) where
   not-written : (w : Result Saved) → 0 < w .told .number → writesAs v table dest ≡ w → ⊥
-  not-written w some e = omega (arith, some, ap (λ (v : Result Saved). v .told .number) e, good)
+  not-written w some e = omega (arith, some, ap (λ (r : Result Saved). r .told .number) e, good)
 
   pub wrote-fits : entriesIn table ≤ largest
   wrote-fits = not-less largest (entriesIn table) (λ over. not-written _ (omega arith) (write-over-long v table dest over))

@@ -1,4 +1,5 @@
--- Laws of saved tables: the form of the file, the tests of writing and reading in their order, the way back, one outcome, a worked file.
+-- Laws of saved tables: the form of the file, its version, the tests of writing and reading in their order, the way back, request (iv) and now, one
+-- outcome, worked files.
 pub mod Form
 pub mod Versions
 pub mod Tests

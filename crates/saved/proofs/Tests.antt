@@ -67,26 +67,19 @@ pub record SavedTable (file : List ℕ) : Type 0 where
   pub version-is : versionSaid file ≡ versionOf (found file)
 
 -- a version that a table has is one of the two
-pub known : (file table : List ℕ) → versionSaid file ≡ versionOf table → isOtherVersion file ≡ false
+known : (file table : List ℕ) → versionSaid file ≡ versionOf table → isOtherVersion file ≡ false
 known file table e =
     ap (λ (n : ℕ). ltb n 1 || ltb 2 n) e ∙ pick-ind (λ (n : ℕ). (ltb n 1 || ltb 2 n) ≡ false) _ 2 1 (λ _. refl) (λ _. refl)
 
-module _ (file table : List ℕ) where
-  pub restores-no-room : entriesIn table < countSaid file → restores file table ≡ readResult read.NoRoom table
+module _ (file table : List ℕ) (s : SavedTable file) where
+  read-tested : reads file table ≡ restores file table
+  unfolding reads pick
+  read-tested = rw (le-ltb _ _ (s .nine), eq-eqb _ _ (s .length-is), known file (found file) (s .version-is), eq-eqb _ _ (s .count-is), eq-eqb _ _ (s .version-is)) refl
+
+  pub read-no-room : entriesIn table < countSaid file → reads file table ≡ readResult read.NoRoom table
   unfolding restores
-  restores-no-room h = pick-yes _ _ _ (lt-ltb _ _ h)
+  read-no-room h = read-tested ∙ pick-yes _ _ _ (lt-ltb _ _ h)
 
-  pub restores-whole : countSaid file ≤ entriesIn table → restores file table ≡ readResult (read.Whole (countSaid file)) (found file ++ drop (size * countSaid file) table)
+  pub read-whole : countSaid file ≤ entriesIn table → reads file table ≡ readResult (read.Whole (countSaid file)) (found file ++ drop (size * countSaid file) table)
   unfolding restores
-  restores-whole h = pick-no _ _ _ (le-ltb _ _ h)
-
-  module _ (s : SavedTable file) where
-    read-tested : reads file table ≡ restores file table
-    unfolding reads pick
-    read-tested = rw (le-ltb _ _ (s .nine), eq-eqb _ _ (s .length-is), known file (found file) (s .version-is), eq-eqb _ _ (s .count-is), eq-eqb _ _ (s .version-is)) refl
-
-    pub read-no-room : entriesIn table < countSaid file → reads file table ≡ readResult read.NoRoom table
-    read-no-room h = read-tested ∙ restores-no-room h
-
-    pub read-whole : countSaid file ≤ entriesIn table → reads file table ≡ readResult (read.Whole (countSaid file)) (found file ++ drop (size * countSaid file) table)
-    read-whole h = read-tested ∙ restores-whole h
+  read-whole h = read-tested ∙ pick-no _ _ _ (le-ltb _ _ h)
