@@ -24,7 +24,7 @@ extern "C" {
 /* ---- Version ---- */
 
 #define PSP_VERSION_MAJOR 0
-#define PSP_VERSION_MINOR 7
+#define PSP_VERSION_MINOR 8
 #define PSP_VERSION_PATCH 0
 #define PSP_VERSION (PSP_VERSION_MAJOR * 10000 + PSP_VERSION_MINOR * 100 + PSP_VERSION_PATCH)
 
@@ -134,6 +134,18 @@ psp_listed psp_count(const uint8_t *input, size_t length, size_t room);
 /* Lists an input into a table and into records alike, in the smaller room of the two (0 to 12): the first count entries stand in both,
  * and both rests are untouched. */
 psp_listed psp_list_records(const uint8_t *input, size_t length, uint32_t *table, size_t numbers, psp_entry *records, size_t room);
+
+/* An entry that was asked for, or that there is none. */
+typedef struct psp_asked {
+  uint32_t found;     /* 1: entry is the one asked for; 0: there is no such entry in this room */
+  psp_listed listed;  /* where there is none the final answer of the listing in this room; zeros where it was found */
+  psp_entry entry;    /* zeros where there is none */
+} psp_asked;
+
+/* Gives entry k of a listing in a room of so many entries, from 0, and where there is none the listing's answer (0 to 12): what psp_list
+ * would store as that entry, and what psp_count answers. It steps from byte 0 block by block, keeps no table and writes nothing, and looks
+ * at nothing behind the entry. With room SIZE_MAX every entry of the input is there. */
+psp_asked psp_entry_at(const uint8_t *input, size_t length, size_t room, size_t k);
 
 /* ---- Planes ---- */
 

@@ -213,7 +213,7 @@ const KINDS: [&str; 12] = [
 ];
 
 /// A block by its kind and id.
-fn by_kind(block: Option<Block>) -> String {
+pub fn by_kind(block: Option<Block>) -> String {
     match block {
         Some(block) => {
             let kind = KINDS.get(usize::from(block.id)).unwrap_or(&"an unknown");

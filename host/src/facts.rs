@@ -10,6 +10,7 @@ use crate::output;
 use crate::psp;
 use crate::psp::ffi::{Area, ImageChunk, LayerChunk, Rect};
 use crate::wanted::Wanted;
+use crate::words::hexadecimal;
 use std::ffi::{OsStr, OsString};
 use std::io::{self, Write};
 
@@ -139,7 +140,7 @@ fn layer_facts(name: String, layer: &LayerChunk) -> Vec<Fact> {
         ("mask disabled", layer.disabled.to_string()),
         ("mask inverted", layer.inverted.to_string()),
         ("blend ranges", layer.blends.to_string()),
-        ("blend range bytes", hexadecimal(&layer.ranges)),
+        ("blend range bytes", hexadecimal(&layer.ranges, BLEND_RANGE)),
         ("bitmaps", layer.bitmaps.to_string()),
         ("channels", layer.channels.to_string()),
     ]
@@ -155,6 +156,9 @@ fn mask_facts(area: Area, bitmaps: u16, channels: u16) -> Vec<Fact> {
     ]
 }
 
+/// Bytes of a blend range.
+const BLEND_RANGE: usize = 8;
+
 const METRICS: [&str; 3] = ["unknown", "dots an inch", "dots a centimetre"];
 const COMPRESSIONS: [&str; 2] = ["raw", "run lengths"];
 
@@ -168,14 +172,4 @@ fn coded(code: u16, meanings: &[&str]) -> String {
 
 fn corners(r: &Rect) -> String {
     format!("{} {} {} {}", r.left, r.top, r.right, r.bottom)
-}
-
-/// Eight bytes a group, one group a blend range.
-fn hexadecimal(bytes: &[u8]) -> String {
-    let group = |bytes: &[u8]| bytes.iter().map(|byte| format!("{:02X}", byte)).collect();
-    bytes
-        .chunks(8)
-        .map(group)
-        .collect::<Vec<String>>()
-        .join(" ")
 }

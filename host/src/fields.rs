@@ -5,6 +5,12 @@ use crate::holder::Chunk;
 use crate::psp::ffi::{AlphaChunk, Area, Entry, ImageChunk, LayerChunk};
 use crate::psp::ffi::{Rect, Resolution, SelectionChunk};
 
+/// Bytes of the file header: the signature and the version.
+pub const FILE_HEADER: usize = 36;
+
+/// What a file begins with.
+pub const SIGNATURE: [u8; 32] = *b"Paint Shop Pro Image File\n\x1A\0\0\0\0\0";
+
 /// Bytes of a block header.
 pub const HEADER: usize = 14;
 
@@ -20,9 +26,10 @@ pub struct Block {
     pub total: u32,
 }
 
-/// What the chunk of a channel says of its plane.
+/// The chunk of a channel.
 #[derive(Clone, Copy, Debug, PartialEq, Eq)]
 pub struct Channel {
+    pub stored: u32,
     pub plane: u32,
     pub bitmap: u16,
     pub channel: u16,
@@ -30,7 +37,7 @@ pub struct Channel {
 
 /// Major and minor version, behind the signature.
 pub fn version(input: &[u8]) -> Option<(u16, u16)> {
-    let mut fields = Fields::at(input, 32)?;
+    let mut fields = Fields::at(input, SIGNATURE.len())?;
     Some((fields.word()?, fields.word()?))
 }
 
@@ -45,11 +52,11 @@ pub fn block(input: &[u8], place: usize) -> Option<Block> {
     })
 }
 
-/// Plane length and codes of the channel whose header stands at a place.
+/// The chunk of the channel whose header stands at a place.
 pub fn channel(input: &[u8], place: usize) -> Option<Channel> {
-    // Behind the stored length.
-    let mut fields = Fields::at(input, place.checked_add(HEADER + 4)?)?;
+    let mut fields = Fields::at(input, place.checked_add(HEADER)?)?;
     Some(Channel {
+        stored: fields.double_word()?,
         plane: fields.double_word()?,
         bitmap: fields.word()?,
         channel: fields.word()?,
@@ -145,6 +152,11 @@ impl<'a> Fields<'a> {
         let place = usize::try_from(entry.place).ok()?;
         let end = place.checked_add(usize::try_from(entry.owned).ok()?)?;
         Fields::at(input.get(place..end)?, HEADER)
+    }
+
+    /// How many bytes are left.
+    pub fn left(&self) -> usize {
+        self.rest.len()
     }
 
     fn bytes<const N: usize>(&mut self) -> Option<[u8; N]> {
@@ -319,6 +331,7 @@ mod tests {
         assert_eq!((block_of.mark, block_of.id), (MARK, 5));
         assert_eq!((block_of.initial, block_of.total), (12, 272));
         let channel_of = Channel {
+            stored: 0x2E2E_2E2E,
             plane: 0x605,
             bitmap: 2,
             channel: 3,

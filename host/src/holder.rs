@@ -76,7 +76,7 @@ impl Chunk {
     }
 
     /// How many channels it has by its own count.
-    fn channels(&self) -> u16 {
+    pub fn channels(&self) -> u16 {
         match self {
             Chunk::Layer(layer) => layer.channels,
             Chunk::Selection(selection) => selection.channels,
@@ -106,6 +106,30 @@ impl Holder {
         }
         Some(masks(&self.bitmaps))
     }
+}
+
+/// What bitmaps and channels are, by their codes.
+const BITMAPS: [&str; 5] = [
+    "image",
+    "transparency mask",
+    "user mask",
+    "selection",
+    "alpha channel",
+];
+const CHANNELS: [&str; 4] = ["composite", "red", "green", "blue"];
+
+/// A channel by its codes, and what it lies in.
+pub fn channel_words(channel: &Entry, holder: &str) -> String {
+    let words =
+        |of: &[&'static str], code: u32| of.get(code as usize).copied().unwrap_or("unknown");
+    format!(
+        "bitmap {} ({}) channel {} ({}) of {}",
+        channel.bitmap,
+        words(&BITMAPS, channel.bitmap),
+        channel.channel,
+        words(&CHANNELS, channel.channel),
+        holder
+    )
 }
 
 /// Which masks a layer with these bitmaps has.

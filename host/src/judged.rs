@@ -1,54 +1,117 @@
-//! The block that a listing judged last: the one behind the last entry. What it is, and what it
-//! belongs to, is told by its header and by the entries; nothing is judged here a second time.
+//! The block that a listing judges next: the one behind those that it has passed. What it is, and
+//! what it belongs to, is told by its header and by the entries; nothing is judged here a second
+//! time.
 
-use crate::fields::{self, Channel, HEADER};
+use crate::fields::{self, Block, Channel, FILE_HEADER, HEADER};
 use crate::holder::{Chunk, Which};
 use crate::lines;
 use crate::name;
 use crate::psp::ffi::{Entry, ImageChunk};
 
-/// Where the first block begins: behind the file header.
-const FIRST: u32 = 36;
-
 const IMAGE: u32 = 0;
 const CHANNEL: u32 = 5;
 
-pub struct Judged<'a> {
-    input: &'a [u8],
-    header: usize,
-    pub id: u32,
-    /// The blocks that were listed and not skipped, and behind them the one that was judged.
-    blocks: Vec<Entry>,
+/// What a listing has passed, as far as the next block is told by it.
+#[derive(Clone, Copy)]
+pub struct Passed {
+    image: Option<Entry>,
+    /// The last layer, selection or alpha channel; none holds another one.
+    holder: Option<Entry>,
+    /// The channels in that.
+    channels: u32,
+    layers: u32,
+    alphas: u32,
+    /// Where the next block begins; none where no entry could stand there.
+    next: Option<u32>,
 }
 
-impl<'a> Judged<'a> {
-    /// The block behind a table; none where the input has no header there.
-    pub fn behind(table: &[u32], input: &'a [u8]) -> Option<Judged<'a>> {
-        let place = match lines::entries(table).last() {
-            Some(last) => last.place.checked_add(last.owned)?,
-            None => FIRST,
-        };
-        let header = usize::try_from(place).ok()?;
-        let id = fields::block(input, header)?.id.into();
-        let listed = lines::entries(table).filter(|entry| entry.skipped == 0);
-        let mut blocks: Vec<Entry> = listed.collect();
-        // A layer or an alpha channel counts those before it.
-        let before = blocks.iter().filter(|block| block.id == id).count();
+impl Passed {
+    /// Before the first block.
+    pub fn none() -> Passed {
+        Passed {
+            image: None,
+            holder: None,
+            channels: 0,
+            layers: 0,
+            alphas: 0,
+            next: Some(FILE_HEADER as u32),
+        }
+    }
+
+    pub fn add(&mut self, entry: &Entry) {
+        self.next = entry.place.checked_add(entry.owned);
+        match (Which::of(entry), entry.id) {
+            _ if entry.skipped != 0 => {}
+            (Some(which), _) => self.enter(which, entry),
+            (None, IMAGE) => self.image = Some(*entry),
+            (None, CHANNEL) => self.channels += 1,
+            _ => {}
+        }
+    }
+
+    fn enter(&mut self, which: Which, entry: &Entry) {
+        self.holder = Some(*entry);
+        self.channels = 0;
+        match which {
+            Which::Layer(_) => self.layers += 1,
+            Which::Alpha(_) => self.alphas += 1,
+            Which::Selection => {}
+        }
+    }
+
+    /// Where the next block begins.
+    pub fn place(&self) -> Option<usize> {
+        usize::try_from(self.next?).ok()
+    }
+
+    /// The image, if it is among what was passed.
+    pub fn image(&self, input: &[u8]) -> Option<ImageChunk> {
+        fields::image(input, self.image.as_ref()?)
+    }
+
+    /// The next block; none where the input has no header there.
+    pub fn next<'a>(&self, input: &'a [u8]) -> Option<Judged<'a>> {
+        let header = self.place()?;
+        let block = fields::block(input, header)?;
+        let id = block.id.into();
         // A chunk is judged only when all of it is there, so its fields end before the input does.
-        let owned = u32::try_from(input.len()).ok()?.checked_sub(place)?;
-        blocks.push(Entry {
+        let owned = u32::try_from(input.len()).ok()?.checked_sub(self.next?)?;
+        let layer = if id == 4 { self.layers } else { self.alphas };
+        let own = Entry {
             id,
-            place,
+            place: self.next?,
             owned,
-            layer: u32::try_from(before).ok()?,
+            layer,
             ..Entry::default()
-        });
+        };
         Some(Judged {
             input,
             header,
+            block,
             id,
-            blocks,
+            own,
+            before: *self,
         })
+    }
+}
+
+pub struct Judged<'a> {
+    pub input: &'a [u8],
+    /// Where its header begins.
+    pub header: usize,
+    pub block: Block,
+    pub id: u32,
+    /// Itself, as an entry that owns all that is there.
+    own: Entry,
+    before: Passed,
+}
+
+impl<'a> Judged<'a> {
+    /// The block behind a table.
+    pub fn behind(table: &[u32], input: &'a [u8]) -> Option<Judged<'a>> {
+        let mut passed = Passed::none();
+        lines::entries(table).for_each(|entry| passed.add(&entry));
+        passed.next(input)
     }
 
     /// Where its information chunk begins.
@@ -58,8 +121,8 @@ impl<'a> Judged<'a> {
 
     /// The image, or itself where it is one.
     pub fn image(&self) -> Option<ImageChunk> {
-        let is_image = |block: &&Entry| block.id == IMAGE;
-        fields::image(self.input, self.blocks.iter().rev().find(is_image)?)
+        let own = Some(&self.own).filter(|own| own.id == IMAGE);
+        fields::image(self.input, own.or(self.before.image.as_ref())?)
     }
 
     /// The layer, selection or alpha channel that it lies in, or itself where it is one.
@@ -88,16 +151,12 @@ impl<'a> Judged<'a> {
 
     /// What it lies in, and which of the channels there it is, from 0 in file order.
     pub fn channel_words(&self) -> Option<String> {
-        let behind = self.blocks.iter().rev();
-        let behind = behind.take_while(|block| Which::of(block).is_none());
-        let channels = behind.filter(|block| block.id == CHANNEL);
-        let number = channels.count().checked_sub(1)?;
+        let number = self.before.channels;
         Some(format!("{}, channel {}", self.holder_words()?, number))
     }
 
-    /// None holds another one, so the last of them is the one that it lies in.
     fn nearest(&self) -> Option<&Entry> {
-        let mut blocks = self.blocks.iter().rev();
-        blocks.find(|block| Which::of(block).is_some())
+        let own = Some(&self.own).filter(|own| Which::of(own).is_some());
+        own.or(self.before.holder.as_ref())
     }
 }

@@ -5,6 +5,7 @@ mod alphas;
 mod answer;
 mod arguments;
 mod asked;
+mod beginning;
 mod blocks;
 mod buffer;
 mod collect;
@@ -30,6 +31,7 @@ mod holder;
 mod identity;
 mod judged;
 mod layers;
+mod lengths;
 mod lines;
 mod list;
 mod memory;
@@ -38,12 +40,18 @@ mod named;
 mod number;
 mod output;
 mod palette;
+mod parent;
+mod pencil;
+mod placing;
 mod plane;
 mod restored;
 mod save;
 mod saved;
 mod shape;
+mod sheet;
+mod steps;
 mod table;
+mod tested;
 mod typed;
 mod wanted;
 mod widen;
@@ -57,6 +65,7 @@ extern crate psp as library;
 mod psp {
     pub use library::ffi;
     pub use library::numbers::*;
+    pub use library::refusal;
 }
 
 use failure::Failure;
@@ -66,6 +75,7 @@ use std::process::ExitCode;
 
 const HELP: &str = "\
 psp list FILE                                    the blocks, in document 01's lines
+psp steps FILE [--until K]                       why there are these blocks, byte by byte
 psp layers FILE [--border | --csv | --json]      the layers, the bottom one first
 psp alphas FILE [--border | --csv | --json]      the selection and the alpha channels
 psp facts FILE [LAYER | selection | alpha RANK]  every field of the image and of these, or of one
@@ -86,7 +96,7 @@ refused, differs or lacks what was asked for, 2 for wrong use or a file that can
 written. Work of more than a second is told of on standard error, if that is a terminal.
 ";
 
-const VERSION: &str = "0.7.0";
+const VERSION: &str = "0.8.0";
 
 struct Command {
     help: &'static str,
@@ -127,6 +137,7 @@ fn dispatch(words: &[OsString]) -> Result<(), Failure> {
 fn command(name: &str) -> Option<Command> {
     let (help, run): (_, fn(&[OsString]) -> _) = match name {
         "list" => (list::HELP, list::run),
+        "steps" => (steps::HELP, steps::run),
         "layers" => (layers::HELP, layers::run),
         "alphas" => (alphas::HELP, alphas::run),
         "facts" => (facts::HELP, facts::run),

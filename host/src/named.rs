@@ -125,18 +125,37 @@ const FIELDS: [Field; 29] = [
 pub fn field(place: usize, table: &[u32], input: &[u8]) -> Option<(String, &'static str)> {
     let judged = Judged::behind(table, input)?;
     let at = place.checked_sub(judged.chunk())?;
-    let is_it = |field: &&Field| field.0.id == judged.id && field.1 == at;
-    let Field(kind, _, name, value, permitted, next) = FIELDS.iter().find(is_it)?;
-    let value = value(&mut Fields::at(input, place)?)?;
+    let Field(kind, .., next) = find(&judged, at)?;
+    let block = (kind.words)(&judged)?;
+    let (_, words) = told(&judged, at)?;
+    Some((format!("{}, {}", block, words), next(&judged)))
+}
+
+/// The fields of a block that are judged, by their offsets in its chunk, in file order.
+pub fn offsets(id: u32) -> impl Iterator<Item = usize> {
+    let fields = FIELDS.iter().filter(move |field| field.0.id == id);
+    fields.map(|field| field.1)
+}
+
+/// The field at an offset of the block's chunk: its bytes, and its name, its value and what is
+/// permitted.
+pub fn told<'a>(judged: &Judged<'a>, offset: usize) -> Option<(&'a [u8], String)> {
+    let Field(_, _, name, value, permitted, _) = find(judged, offset)?;
+    let place = judged.chunk().checked_add(offset)?;
+    let mut fields = Fields::at(judged.input, place)?;
+    let there = fields.left();
+    let value = value(&mut fields)?;
+    let bytes = judged.input.get(place..)?.get(..there - fields.left())?;
     let permitted = match permitted {
         Be(values) => format!("it must be {}", values),
-        By(rules) => rules(&judged)?,
+        By(rules) => rules(judged)?,
     };
-    let block = (kind.words)(&judged)?;
-    Some((
-        format!("{}, {} {}: {}", block, name, value, permitted),
-        next(&judged),
-    ))
+    Some((bytes, format!("{} {}: {}", name, value, permitted)))
+}
+
+fn find(judged: &Judged, offset: usize) -> Option<&'static Field> {
+    let is_it = |field: &&Field| field.0.id == judged.id && field.1 == offset;
+    FIELDS.iter().find(is_it)
 }
 
 fn typed_channel(judged: &Judged) -> Option<String> {

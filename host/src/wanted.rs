@@ -32,6 +32,14 @@ impl Number {
     pub fn is(&self, number: u32) -> bool {
         self.value == Some(number)
     }
+
+    pub fn value(&self) -> Option<u32> {
+        self.value
+    }
+
+    pub fn typed(&self) -> &str {
+        &self.typed
+    }
 }
 
 /// A layer, the selection or an alpha channel.

@@ -28,6 +28,22 @@ pub fn grouped_bytes(bytes: u64) -> String {
     format!("{} bytes", grouped(number))
 }
 
+/// Numbers of which one is meant: 1, 2 or 3.
+pub fn or(numbers: &[u32]) -> String {
+    let words: Vec<String> = numbers.iter().map(u32::to_string).collect();
+    match words.split_last() {
+        Some((last, before)) if !before.is_empty() => format!("{} or {}", before.join(", "), last),
+        _ => words.concat(),
+    }
+}
+
+/// Bytes in hexadecimal, so many in a group and a space between groups.
+pub fn hexadecimal(bytes: &[u8], group: usize) -> String {
+    let digits = |bytes: &[u8]| bytes.iter().map(|byte| format!("{:02X}", byte)).collect();
+    let groups: Vec<String> = bytes.chunks(group).map(digits).collect();
+    groups.join(" ")
+}
+
 /// That memory was asked for and is not there.
 pub fn no_memory(bytes: usize) -> String {
     format!("no memory for {}", grouped_bytes(bytes as u64))
@@ -41,6 +57,20 @@ mod tests {
     fn one_has_no_plural() {
         assert_eq!(counted(1, "row"), "1 row");
         assert_eq!(counted(0, "row"), "0 rows");
+    }
+
+    #[test]
+    fn the_last_of_several_is_told_behind_or() {
+        assert_eq!(or(&[375, 0]), "375 or 0");
+        assert_eq!(or(&[1, 2, 3]), "1, 2 or 3");
+        assert_eq!([or(&[7]), or(&[])], ["7", ""]);
+    }
+
+    #[test]
+    fn bytes_stand_in_groups() {
+        assert_eq!(hexadecimal(b"~BK\0", 1), "7E 42 4B 00");
+        assert_eq!(hexadecimal(&[0, 1, 0xFF], 2), "0001 FF");
+        assert_eq!(hexadecimal(&[], 8), "");
     }
 
     #[test]

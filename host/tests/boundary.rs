@@ -2,7 +2,7 @@
 //! values, its file of 521 bytes, document 02's saved tables, and slices of length 0; with numbers,
 //! and with results. Built and run by host/check.
 
-use psp::{numbers, Entry, Rect, Refusal, RefusedListing, RefusedPlane};
+use psp::{numbers, Asked, Entry, Rect, Refusal, RefusedListing, RefusedPlane};
 use psp::{ENTRY_NUMBERS, SAVED_ENTRY, SAVED_HEAD};
 
 /// Document 01's file: a 1 by 1 grey image, raw, with one layer and one channel.
@@ -357,6 +357,54 @@ fn a_selection_and_alpha_channels_are_listed() {
     assert!(records.iter().all(|entry| entry.skipped == 0));
 }
 
+/// What stands beside an entry that was found.
+const ZEROS: numbers::Listed = numbers::Listed {
+    number: 0,
+    place: 0,
+    count: 0,
+};
+
+#[test]
+fn an_entry_that_is_asked_for_is_the_one_that_is_listed() {
+    let whole = grey_with_masks();
+    let cut = whole.len() - 1;
+    for length in [0, 36, 87, 88, 490, 520, 521, cut, whole.len()] {
+        let input = &whole[..length];
+        let mut records = [Entry::default(); 11];
+        numbers::list_records(input, &mut [0; 11 * ENTRY_NUMBERS], &mut records);
+        for room in [0, 1, 3, 10, 11, 12, usize::MAX] {
+            let listed = numbers::count(input, room);
+            for k in (0..14).chain([usize::MAX]) {
+                let asked = numbers::entry_at(input, room, k);
+                if k < listed.count {
+                    assert_eq!((asked.found, asked.entry), (1, records[k]));
+                    assert_eq!(asked.listed, ZEROS);
+                } else {
+                    assert_eq!((asked.found, asked.listed), (0, listed));
+                    assert_eq!(asked.entry, Entry::default());
+                }
+            }
+        }
+    }
+}
+
+#[test]
+fn nothing_is_looked_at_behind_the_entry_that_is_asked_for() {
+    let mut file = grey();
+    let layer = numbers::entry_at(&file, usize::MAX, 2);
+    assert_eq!(
+        (layer.found, layer.entry.id, layer.entry.owned),
+        (1, 4, 389)
+    );
+    file[491..].fill(0xFF);
+    for length in [491, 500, 521] {
+        let asked = numbers::entry_at(&file[..length], usize::MAX, 2);
+        assert_eq!(asked, layer);
+    }
+    assert_eq!(numbers::entry_at(&file, usize::MAX, 3).listed.number, 5);
+    assert_eq!(numbers::entry_at(&file[..490], usize::MAX, 2).found, 0);
+}
+
 #[test]
 fn a_selection_and_alpha_channels_have_facts() {
     let (file, room) = (grey_with_masks(), usize::MAX);
@@ -397,6 +445,7 @@ fn slices_may_be_empty() {
     let listed = numbers::list(&[], &mut []);
     assert_eq!((listed.number, listed.place, listed.count), (2, 0, 0));
     assert_eq!(numbers::list_records(&[], &mut [], &mut []), listed);
+    assert_eq!(numbers::entry_at(&[], 0, 0).listed, listed);
     assert_eq!(numbers::unpack(&[], &mut [], 0).number, 0);
     assert_eq!(numbers::pack(&[], &mut []).length, 0);
     assert_eq!(numbers::read_plane(&[], 0, 0, 0, 0, &mut []).number, 0);
@@ -412,7 +461,7 @@ fn slices_may_be_empty() {
 #[test]
 fn the_library_is_the_header_s_and_the_crate_s() {
     assert_eq!(numbers::version(), psp::ffi::VERSION);
-    assert_eq!(psp::version().to_string(), "0.7.0");
+    assert_eq!(psp::version().to_string(), "0.8.0");
     // Where cargo builds this, its own manifest has the version too.
     if let Some(version) = option_env!("CARGO_PKG_VERSION") {
         assert_eq!(psp::version().to_string(), version);
@@ -433,6 +482,9 @@ fn a_listing_is_its_count_or_its_refusal() {
         count: 1,
     };
     assert_eq!(psp::count(&file, 1), Err(full));
+    assert_eq!(psp::entry_at(&file, 4, 3), Asked::Entry(records[3]));
+    assert_eq!(psp::entry_at(&file, 4, 4), Asked::Final(Ok(4)));
+    assert_eq!(psp::entry_at(&file, 1, 1), Asked::Final(Err(full)));
 }
 
 #[test]

@@ -3,9 +3,10 @@
 
 extern crate psp as library;
 
+// Here only chunks are asked for.
+#[allow(dead_code)]
 #[path = "../src/fields.rs"]
 mod fields;
-// Here only chunks are asked for.
 #[allow(dead_code)]
 #[path = "../src/holder.rs"]
 mod holder;

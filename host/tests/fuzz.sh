@@ -48,6 +48,9 @@ while [ $run -lt 300 ]; do
   ! grep -q 'a field here' said || bad "fuzz $run: a field without a name"
   "$reference" list < fuzz.psp > expected
   cmp -s listed expected || bad "fuzz $run: the listing is not the independent one's"
+  "$psp" steps fuzz.psp > walked 2> said
+  same "fuzz $run: status of steps" $listing $?
+  walks "fuzz $run"
   case $((run % 8)) in
   0) set -- layers fuzz.psp ;;
   1) set -- facts fuzz.psp ;;

@@ -1,6 +1,6 @@
 /* The header against the archive, in C and in C++: header FILE, document 01's file of 521 bytes. Their versions agree, their entries too,
- * a wrong field has its own place, a selection and alpha channels have their fields, a table is saved and read back, and every function
- * takes a null pointer where the length is 0: its answer is the one that a buffer of length 0 gets. */
+ * also one by one, a wrong field has its own place, a selection and alpha channels have their fields, a table is saved and read back, and
+ * every function takes a null pointer where the length is 0: its answer is the one that a buffer of length 0 gets. */
 #include <psp.h>
 #include <stdio.h>
 #include <string.h>
@@ -53,6 +53,32 @@ static void entries(const uint8_t *file, size_t length) {
   hold(is_listed(psp_list_records(file, length, table, NUMBERS, records, ROOM), PSP_ACCEPTED, length, ROOM), "psp_entry: the listing");
   hold(sizeof records == sizeof table && memcmp(records, table, sizeof table) == 0, "psp_entry: the numbers of the table");
   hold(records[2].row == 0 && records[3].plane == 4 && records[3].row == 4, "psp_entry: plane length and row");
+}
+
+static int is_asked(psp_asked a, uint32_t found, psp_entry entry) {
+  return a.found == found && memcmp(&a.entry, &entry, sizeof entry) == 0;
+}
+
+/* Each entry by itself is the record, with zeros beside it; where there is none the answer is the listing's. */
+static void asked(const uint8_t *file, size_t length) {
+  enum { ROOM = 4, NUMBERS = ROOM * PSP_ENTRY_NUMBERS };
+  static psp_entry none;
+  uint32_t table[NUMBERS];
+  psp_entry records[ROOM];
+  psp_asked past;
+  size_t k;
+  hold(psp_list_records(file, length, table, NUMBERS, records, ROOM).count == ROOM, "psp_entry_at: the listing");
+  for (k = 0; k < ROOM; k++) {
+    hold(is_asked(psp_entry_at(file, length, SIZE_MAX, k), 1, records[k]), "psp_entry_at: an entry");
+    hold(is_listed(psp_entry_at(file, length, ROOM, k).listed, 0, 0, 0), "psp_entry_at: zeros beside an entry");
+    past = psp_entry_at(file, length, k, k);
+    hold(is_asked(past, 0, none) && is_listed(past.listed, PSP_TABLE_FULL, records[k].place, k), "psp_entry_at: no room");
+  }
+  past = psp_entry_at(file, length, SIZE_MAX, ROOM);
+  hold(is_asked(past, 0, none) && is_listed(past.listed, PSP_ACCEPTED, length, ROOM), "psp_entry_at: behind the last entry");
+  hold(psp_entry_at(file, length, SIZE_MAX, SIZE_MAX).found == 0, "psp_entry_at: the greatest number");
+  past = psp_entry_at(NULL, 0, SIZE_MAX, 0);
+  hold(is_asked(past, 0, none) && is_listed(past.listed, PSP_ENDS_TOO_SOON, 0, 0), "psp_entry_at: no input");
 }
 
 /* The place of 8 is that of the field: here the layer count, and the first corner of the saved image rectangle. */
@@ -231,6 +257,7 @@ int main(int argc, char **argv) {
   hold(psp_count(file, sizeof file, SIZE_MAX).number == PSP_ACCEPTED, "the file is accepted");
   listings(file, sizeof file);
   entries(file, sizeof file);
+  asked(file, sizeof file);
   wrong_fields(file, sizeof file);
   planes(file, sizeof file);
   canvases();

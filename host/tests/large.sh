@@ -14,6 +14,8 @@ if [ -z "$emulator" ]; then
   # The largest input takes 1,048,576 KiB, so it is in memory once, also while follow reads it again.
   within 1200000 list large.psp
   same "the largest file once in memory, list: status" 0 $?
+  within 1200000 steps large.psp
+  same "the largest file once in memory, steps: status" 0 $?
   within 1200000 follow large.psp --idle 0
   same "the largest file once in memory, follow: status" 0 $?
   within 1200000 save large.psp -o -

@@ -1,5 +1,6 @@
 // Cases of the listing. L: room, input. The table has the numbers that its room asks, and some more, too few for an entry; each byte of it
-// held EE. T: room, input, and no table.
+// held EE. Then the pencil is asked for each entry. T: room, input, and no table.
+use crate::asked;
 use crate::fields::ends;
 use crate::fields::refuse;
 use crate::hash;
@@ -23,9 +24,11 @@ fn answered(kind: &[u8], o: Outcome) {
     printing::number(told.count as u64);
 }
 
-fn listing_into(input: &[u8], table: &mut [u32]) {
-    answered(b"L", listing::list(input, table));
+fn listing_into(input: &[u8], room: usize, table: &mut [u32]) {
+    let outcome = listing::list(input, table);
+    answered(b"L", outcome);
     printing::number(hash::of_numbers(table) as u64);
+    printing::number(asked::all(input, room, outcome.count) as u64);
     text(b"\n");
 }
 
@@ -40,9 +43,10 @@ fn lent(input: &[u8], room: u32) {
         refuse(b"L");
         return;
     }
-    let size = room as usize * Entry::SIZE + input.len() % Entry::SIZE;
+    let entries = room as usize;
+    let size = entries * Entry::SIZE + input.len() % Entry::SIZE;
     let mut numbers = table();
-    listing_into(input, &mut numbers[..size]);
+    listing_into(input, entries, &mut numbers[..size]);
 }
 
 fn fields(payload: &[u8])

@@ -1,6 +1,7 @@
 // Answers cases of the library's calls, read from standard input: a kind byte, the payload's length as four bytes, the payload. Each case
 // has one line: its kind, then the answer's numbers, then a hash of every buffer that the call could write.
 mod areas;
+mod asked;
 mod bitmaps;
 mod facts;
 mod fields;

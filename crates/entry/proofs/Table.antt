@@ -1,14 +1,15 @@
 -- What a table holds after entries were stored in it.
-use mathlib.Core.Path.{_≡_, refl, sym, ap, _∙_}
-use mathlib.Core.List.{List, [], _∷_, _++_}
+use mathlib.Core.Path.{_≡_, refl, sym, ap, ap₂, _∙_}
+use mathlib.Core.List.{List, [], _∷_, _++_, append-assoc}
 use Prim.Native.Nat.{ℕ, zero, suc, _+_, _*_, _/_, _≤_, _<_}
 use native.Mathlib.Omega.{arith}
 use borrow.Author.Tests.{lt-ltb, le-ltb}
-use lib.ListN.{length, take, drop, length-append, length-take}
+use lib.ListN.{length, take, drop, getD, length-append, length-take}
+use lib.Seq.{getD-append-add}
 use Rattle.laws.specs.Lists.{over}
 use Rattle.laws.proofs.Choice.{pick-yes, pick-no}
 use Rattle.entry.specs.declared.Entry.{Entry}
-use Rattle.entry.specs.Entry.{size, numbersOf, numbers, stored, keep, write}
+use Rattle.entry.specs.Entry.{size, numbersOf, entryAt, numbers, stored, keep, write}
 use Rattle.laws.proofs.Over.{over-length, over-none, over-front, over-over}
 
 pub numbers-length : (es : List Entry) → length (numbers es) ≡ size * length es
@@ -51,3 +52,21 @@ pub write-all : (es : List Entry) (t : List ℕ) → let kept = take (length t /
 write-all es t =
     let kept = take (length t / size) es in
     write-from es t 0 (length t / size) (omega arith) ∙ over-front t (numbers kept) (size * length kept) (numbers-length kept)
+
+-- ### The k-th entry of a table, read back
+
+entry-behind : (e : Entry) (t : List ℕ) (at : ℕ) → entryAt (numbersOf e ++ t) (size + at) ≡ entryAt t at
+entry-behind e t at =
+    let first : (j : ℕ) → getD (numbersOf e ++ t) (size + at + j) 0 ≡ getD t (at + j) 0 =
+    λ j. let here : size + at + j ≡ size + (at + j) = omega arith in ap (λ (n : ℕ). getD (numbersOf e ++ t) n 0) here ∙ getD-append-add (numbersOf e) t (at + j) 0 in
+    simp (getD-append-add (numbersOf e) t at 0, first)
+
+pub entry-is : (es : List Entry) (rest : List ℕ) (k : ℕ) (d : Entry) → k < length es → entryAt (numbers es ++ rest) (k * size) ≡ getD es k d
+unfolding numbers
+entry-is [] rest k d h = absurd (omega arith)
+entry-is (e ∷ es) rest zero d h = refl
+entry-is (e ∷ es) rest (suc k) d h =
+    let there : suc k * size ≡ size + k * size = omega arith in
+    ap₂ entryAt (append-assoc (numbersOf e) (numbers es) rest) there
+    ∙ entry-behind e (numbers es ++ rest) (k * size)
+    ∙ entry-is es rest k d (omega arith)

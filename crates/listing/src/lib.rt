@@ -5,6 +5,8 @@ mod lister;
 mod question;
 mod walker;
 
+pub use head::judge;
+pub use lister::BEYOND;
 pub use lister::count;
 pub use lister::list;
 pub use lister::list_up_to;

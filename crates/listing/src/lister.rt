@@ -15,8 +15,8 @@ ghost use Rattle.listing.specs.Question.{foundIn};
 ghost use Rattle.listing.specs.Listing.{listed, told, lists, listsUpTo, result};
 ghost use Rattle.listing.specs.Walks.{Walks};
 
-// No block of a permitted input ends past this: the input is at most 2^26 bytes, and a block's length has 32 bits.
-const BEYOND: usize = 8589934592;
+// No block of a permitted input ends past this: the input is at most 2^30 bytes, and a block's length has 32 bits.
+pub const BEYOND: usize = 8589934592;
 
 // The one walk of an input, for every use: a room in entries, a table that keeps as many of them as it reaches, and a question.
 fn walk(input: &[u8], room: usize, table: &mut [u32], question: Question) -> Out

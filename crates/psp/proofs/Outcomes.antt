@@ -13,6 +13,7 @@ use Rattle.laws.specs.Results.{Result}
 use Rattle.laws.specs.Outcomes.{OneResult, OneOutcome}
 use Rattle.laws.proofs.OneOutcome.{one, result-one}
 use Rattle.entry.specs.declared.Entry.{Entry}
+use Rattle.psp.proofs.asked.psp_entry_at.Reads as entry-at
 use Rattle.psp.proofs.filed.psp_read_table.Reads as read-table
 use Rattle.psp.proofs.filed.psp_write_table.Reads as write-table
 use Rattle.psp.proofs.placing.psp_intersect.Reads as intersect
@@ -85,6 +86,9 @@ psp-list-records-one l a y z e f p q =
 
 pub psp-count-one : OneResult count.Learnt
 psp-count-one l a y z e f = one
+
+pub psp-entry-at-one : OneResult entry-at.Learnt
+psp-entry-at-one l a y z e f = one
 
 pub psp-intersect-one : OneResult intersect.Learnt
 psp-intersect-one l a y z e f = one

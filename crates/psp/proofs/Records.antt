@@ -1,38 +1,20 @@
 -- What records hold after entries of a table were stored in them.
 use mathlib.Core.Path.{_≡_, refl, sym, ap, ap₂, _∙_}
-use mathlib.Core.List.{List, [], _∷_, _++_, append-assoc}
+use mathlib.Core.List.{List, [], _∷_, _++_}
 use Prim.Native.Nat.{ℕ, zero, suc, _+_, _*_, _/_, _≤_, _<_}
 use native.Mathlib.Omega.{arith}
 use lib.ListN.{length, take, drop, getD, length-set}
-use lib.Seq.{take-suc, take-length, take-at, drop-at, set-split, append-snoc, length-take-le, getD-append-add}
+use lib.Seq.{take-suc, take-length, take-at, drop-at, set-split, append-snoc, length-take-le}
 use Rattle.laws.proofs.Over.{drop-more}
 use Rattle.entry.specs.declared.Entry.{Entry}
-use Rattle.entry.specs.Entry.{size, numbersOf, entryAt, numbers, write}
-use Rattle.entry.proofs.Table.{write-all}
+use Rattle.entry.specs.Entry.{size, entryAt, numbers, write}
+use Rattle.entry.proofs.Table.{entry-is, write-all}
 use Rattle.psp.specs.Recorded.{recordsOf}
 
 pub records-length : (t : List ℕ) (k : ℕ) (old : List Entry) → length (recordsOf t k old) ≡ length old
 unfolding recordsOf
 records-length t zero old = refl
 records-length t (suc k) old = length-set (recordsOf t k old) k _ ∙ records-length t k old
-
--- ### An entry's record is the entry
-
-entry-behind : (e : Entry) (t : List ℕ) (at : ℕ) → entryAt (numbersOf e ++ t) (size + at) ≡ entryAt t at
-entry-behind e t at =
-    let first : (j : ℕ) → getD (numbersOf e ++ t) (size + at + j) 0 ≡ getD t (at + j) 0 =
-    λ j. let here : size + at + j ≡ size + (at + j) = omega arith in ap (λ (n : ℕ). getD (numbersOf e ++ t) n 0) here ∙ getD-append-add (numbersOf e) t (at + j) 0 in
-    simp (getD-append-add (numbersOf e) t at 0, first)
-
-pub entry-is : (es : List Entry) (rest : List ℕ) (k : ℕ) (d : Entry) → k < length es → entryAt (numbers es ++ rest) (k * size) ≡ getD es k d
-unfolding numbers
-entry-is [] rest k d h = absurd (omega arith)
-entry-is (e ∷ es) rest zero d h = refl
-entry-is (e ∷ es) rest (suc k) d h =
-    let there : suc k * size ≡ size + k * size = omega arith in
-    ap₂ entryAt (append-assoc (numbersOf e) (numbers es) rest) there
-    ∙ entry-behind e (numbers es ++ rest) (k * size)
-    ∙ entry-is es rest k d (omega arith)
 
 -- ### The records are the entries of the table, in its order, and the rest is as it was
 

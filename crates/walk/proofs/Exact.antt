@@ -1,10 +1,11 @@
 -- A listing in a room is exactly what is found, and nothing else is: its entries are those of the walk's course, and the look where they end
 -- gives its answer.
 use mathlib.Core.Path.{_≡_, refl, sym, ap, subst, _∙_}
-use mathlib.Core.List.{List, [], append-nil}
-use Prim.Native.Nat.{ℕ, _-_, _≤_}
+use mathlib.Core.List.{List, [], _∷_, _++_, append-nil}
+use Prim.Native.Nat.{ℕ, _+_, _-_, _≤_, _<_}
 use native.Mathlib.Omega.{arith}
-use lib.ListN.{length}
+use lib.ListN.{length, take, getD, length-append, length-take}
+use lib.Seq.{getD-append-add, getD-take}
 use Rattle.laws.specs.Along.{Along}
 use Rattle.laws.proofs.Along.{along-here}
 use Rattle.answer.specs.declared.Answer.{Answer}
@@ -15,7 +16,7 @@ use Rattle.walk.specs.Room.{Listed, cut}
 use Rattle.walk.specs.Owed.{Moves, leaf, nest, MovesOn}
 use Rattle.walk.specs.Course.{Stand, stand, seen, Course, Says, at-end, by-rule, Finds, as-leaf, as-nest, Answered, said, full, Exactly}
 use Rattle.walk.proofs.Continued.{_⧺_}
-use Rattle.walk.proofs.Cut.{plain, cut-case, cut-fits, cut-seam}
+use Rattle.walk.proofs.Cut.{plain, cut-case, cut-fits, cut-entries, cut-seam}
 use Rattle.walk.proofs.Course.{Led, Next, Fits, fits, moved, run-led, course-along, course-run, from, by-look, from-leaf, from-nest, from-end}
 use Rattle.walk.proofs.Tiling.{course-tiles}
 
@@ -80,7 +81,7 @@ module _ {S : Type 0} (main len : ℕ) (look : Look S) (moves : MovesOn main len
   finds-from {x} f as-leaf is = (_, from-leaf main len look moves top low st at end order x f is)
   finds-from {x} f as-nest is = (_, from-nest main len look moves top low st at end order x f is)
 
-  only :
+  pub only :
       (room : ℕ) {es : List Entry} {x : Stand S} {k : Step S} {a : Answer} {p : ℕ} → Course look top begin es x → seen look top x ≡ k
       → Answered room es x k a p → plain a p es ≡ cut room whole
   only room {es} {x} c is (said {a} {p} says all enough) =
@@ -95,3 +96,22 @@ module _ {S : Type 0} (main len : ℕ) (look : Look S) (moves : MovesOn main len
 
   pub exact-only : (room : ℕ) (r : Listed) → Exactly look top begin room r → r ≡ cut room whole
   exact-only room r x = only room (x .course) refl (x .answered)
+
+  -- ### The entry that is found where a course stands is the next one listed
+
+  pub next-listed :
+      (room : ℕ) {es : List Entry} {x : Stand S} {e : Entry} {k : Step S} → Course look top begin es x → seen look top x ≡ k → Finds e k
+      → length es < room → (d : Entry) → let l = cut room whole .entries in (length es < length l) × (getD l (length es) d ≡ e)
+  next-listed room {es} {x} {e} c is finds lt d =
+      let f = finds-from (fits main len look moves top low st at end order c) finds is in
+      let all : List Entry = es ++ e ∷ f .0 .entries in
+      let listed : cut room whole .entries ≡ take room all =
+      cut-entries room whole
+      ∙ ap (λ (w : Listing S). take room (w .entries)) (course-run main len look moves top low st at end order c ∙ ap (λ w. es ⧺ w) (f .1)) in
+      let here : length es + 0 ≡ length es = omega arith in (
+        omega (arith, ap length listed, length-take room all, length-append es (e ∷ f .0 .entries)),
+        ap (λ (l : List Entry). getD l (length es) d) listed
+            ∙ getD-take room all (length es) d lt
+            ∙ ap (λ (n : ℕ). getD all n d) (sym here)
+            ∙ getD-append-add es (e ∷ f .0 .entries) 0 d,
+      )

@@ -2,8 +2,8 @@
 
 use std::os::raw::c_double;
 
-/// PSP_VERSION: 0.7.0, as major times 10,000, minor times 100, patch.
-pub const VERSION: u32 = 700;
+/// PSP_VERSION: 0.8.0, as major times 10,000, minor times 100, patch.
+pub const VERSION: u32 = 800;
 
 // Every function: all is well.
 pub const ACCEPTED: u32 = 0;
@@ -111,6 +111,18 @@ pub struct Listed {
     pub number: u32,
     pub place: usize,
     pub count: usize,
+}
+
+/// An entry that was asked for, or that there is none.
+#[repr(C)]
+#[derive(Clone, Copy, Debug, PartialEq, Eq)]
+pub struct Asked {
+    /// 1: `entry` is the one asked for; 0: there is no such entry in this room.
+    pub found: u32,
+    /// Where there is none, the final answer of the listing in this room; zeros where it was found.
+    pub listed: Listed,
+    /// Zeros where there is none.
+    pub entry: Entry,
 }
 
 /// The answer of reading a plane.
@@ -293,6 +305,7 @@ extern "C" {
         records: *mut Entry,
         room: usize,
     ) -> Listed;
+    pub fn psp_entry_at(input: *const u8, length: usize, room: usize, k: usize) -> Asked;
     pub fn psp_read_plane(
         input: *const u8,
         length: usize,
@@ -358,6 +371,7 @@ mod tests {
     fn structs_have_the_sizes_of_the_header() {
         assert_eq!(size_of::<Entry>(), 56);
         assert_eq!(size_of::<Listed>(), 24);
+        assert_eq!(size_of::<Asked>(), 88);
         assert_eq!(size_of::<Plane>(), 24);
         assert_eq!(size_of::<Packed>(), 16);
         assert_eq!(size_of::<Rect>(), 16);

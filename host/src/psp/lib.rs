@@ -61,6 +61,26 @@ pub fn list_records(
     listed(numbers::list_records(input, table, records))
 }
 
+/// What a listing has as the entry that was asked for.
+#[derive(Clone, Copy, Debug, PartialEq, Eq)]
+pub enum Asked {
+    /// The entry.
+    Entry(Entry),
+    /// There is none: the final answer of the listing, its count or its refusal.
+    Final(Result<usize, RefusedListing>),
+}
+
+/// Gives entry `k` of a listing in a room of so many entries, from 0, or the listing's final answer.
+/// It steps from byte 0 block by block, keeps no table, and looks at nothing behind the entry. With
+/// room `usize::MAX` every entry of the input is there.
+pub fn entry_at(input: &[u8], room: usize, k: usize) -> Asked {
+    let asked = numbers::entry_at(input, room, k);
+    match asked.found {
+        0 => Asked::Final(listed(asked.listed)),
+        _ => Asked::Entry(asked.entry),
+    }
+}
+
 /// Reads a stored channel into the first `plane` bytes of `dest`, `code` being the compression, and
 /// gives how many were written. The rest of `dest` is untouched, and all of it when refused.
 pub fn read_plane(

@@ -7,7 +7,7 @@
 
 use super::ffi;
 
-pub use super::ffi::{AlphaFacts, Dots, Entry, ImageFacts, LayerFacts, Listed};
+pub use super::ffi::{AlphaFacts, Asked, Dots, Entry, ImageFacts, LayerFacts, Listed};
 pub use super::ffi::{Packed, Plane, Rect, Restored, Saved, SelectionFacts};
 
 /// A part of a lent slice, empty when refused.
@@ -48,6 +48,13 @@ pub fn list_records(input: &[u8], table: &mut [u32], records: &mut [Entry]) -> L
             records.len(),
         )
     }
+}
+
+/// Gives entry `k` of a listing in a room of so many entries, from 0, and where there is none the
+/// listing's answer; nothing is kept or stored, and behind the entry nothing is looked at.
+pub fn entry_at(input: &[u8], room: usize, k: usize) -> Asked {
+    // SAFETY: the slice is valid for its length, and nothing is written.
+    unsafe { ffi::psp_entry_at(input.as_ptr(), input.len(), room, k) }
 }
 
 /// Reads a stored channel into the first `plane` bytes of `dest`, `code` being the compression.

@@ -5,6 +5,8 @@ use psp::{ffi, numbers};
 use reference::case::{Placing, Stored};
 use reference::library::{Library, Listed, Record};
 use reference::psp::chunks::{AlphaChunk, ImageChunk, LayerChunk, Resolution, SelectionChunk};
+use reference::psp::listing::Entry;
+use reference::psp::pencil::Asked;
 use reference::psp::planes::PlaneAnswer;
 use reference::psp::rectangle::Rectangle;
 use reference::psp::views::{Lender, PaletteView};
@@ -63,23 +65,23 @@ fn to_entry(record: &Record) -> numbers::Entry {
     }
 }
 
-fn to_record(entry: &numbers::Entry) -> Record {
-    [
-        entry.id,
-        entry.skipped,
-        entry.level,
-        entry.place,
-        entry.owned,
-        entry.layer,
-        entry.bitmap,
-        entry.channel,
-        entry.start,
-        entry.stored,
-        entry.width,
-        entry.height,
-        entry.plane,
-        entry.row,
-    ]
+fn entry(listed: &numbers::Entry) -> Entry {
+    Entry {
+        id: listed.id,
+        skipped: listed.skipped,
+        level: listed.level,
+        header_place: listed.place,
+        bytes_owned: listed.owned,
+        layer_number: listed.layer,
+        bitmap: listed.bitmap,
+        channel: listed.channel,
+        content_start: listed.start,
+        stored_length: listed.stored,
+        width: listed.width,
+        height: listed.height,
+        plane_length: listed.plane,
+        row: listed.row,
+    }
 }
 
 /// The bits have to be the value's. A NaN may lose its pattern on the way as a
@@ -165,14 +167,38 @@ impl Library for Linked {
     fn list_records(&self, input: &[u8], table: &mut [u32], records: &mut [Record]) -> Listed {
         let mut entries: Vec<numbers::Entry> = records.iter().map(to_entry).collect();
         let answer = numbers::list_records(input, table, &mut entries);
-        for (record, entry) in records.iter_mut().zip(&entries) {
-            *record = to_record(entry);
+        for (record, listed) in records.iter_mut().zip(&entries) {
+            *record = entry(listed).numbers();
         }
         listed(answer)
     }
 
     fn count(&self, input: &[u8], room: usize) -> Listed {
         listed(numbers::count(input, room))
+    }
+
+    /// What is not told is zeros: the final answer of an entry that was found, and
+    /// the entry where there is none.
+    fn entry_at(&self, input: &[u8], room: usize, k: usize) -> Asked {
+        let asked = numbers::entry_at(input, room, k);
+        let (number, place, count) = listed(asked.listed);
+        let found = entry(&asked.entry);
+        match asked.found {
+            0 => {
+                assert_eq!(found, Entry::default(), "an entry where there is none");
+                Asked::Final {
+                    number,
+                    place,
+                    count,
+                }
+            }
+            1 => {
+                let told = (number, place, count);
+                assert_eq!(told, (0, 0, 0), "an answer beside an entry");
+                Asked::Found(found)
+            }
+            other => panic!("found is {}", other),
+        }
     }
 
     fn read_plane(&self, input: &[u8], stored: &Stored, destination: &mut [u8]) -> PlaneAnswer {

@@ -1,13 +1,14 @@
 //! Compares the library, linked through its C boundary, with the reference in
 //! one process: the generator's cases of all kinds, listings into records and
 //! counts besides, cases too large for the generator, every packet at every place
-//! near an end, and tables too long to be saved. Then what clipping and placing
-//! owe, of the library alone. By other words: listings only, or sheets as large as
-//! they may be.
+//! near an end, tables too long to be saved, and entries asked for behind very many
+//! blocks. Then what clipping and placing owe, of the library alone. By other words:
+//! listings only, or sheets as large as they may be.
 
 mod large;
 mod linked;
 mod long;
+mod many;
 mod sheets;
 
 use std::io;
@@ -68,6 +69,7 @@ fn all(seed: u64, count: u64) -> io::Result<bool> {
     cases::edges::every(&mut each);
     result?;
     longest_tables(&mut comparison)?;
+    many::compare(&mut comparison)?;
     cases::generate(seed, count, |case| compare(&mut comparison, case))?;
     let same = comparison.finish(&[])?;
     Ok(clips() && same)

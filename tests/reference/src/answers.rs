@@ -5,6 +5,7 @@ use crate::case::Case;
 use crate::library::{Library, Listed, Record};
 use crate::psp::chunks::{AlphaChunk, ImageChunk, LayerChunk, Resolution, SelectionChunk};
 use crate::psp::listing::ENTRY_NUMBERS;
+use crate::psp::pencil::Asked;
 use crate::psp::planes::PlaneAnswer;
 use crate::psp::rectangle::Rectangle;
 use crate::psp::views::Lender;
@@ -171,12 +172,48 @@ fn listed(kind: char, listed: Listed, hashes: &[u32]) -> Answer {
 }
 
 /// The table has some numbers past the room, too few for one entry more, and
-/// ends anywhere in it.
+/// ends anywhere in it. Behind its hash stands that of the entries asked for.
 fn listing(library: &dyn Library, room: usize, input: &[u8]) -> Answer {
     let rest = input.len() % ENTRY_NUMBERS;
     let mut table = vec![NUMBER_BEFORE; room * ENTRY_NUMBERS + rest];
     let got = library.list(input, &mut table);
-    listed('L', got, &[hash(&table)])
+    let replies = replies(library, room, got.2 as usize, input);
+    listed('L', got, &[hash(&table), hash(&replies)])
+}
+
+/// Every entry that is listed and two past the last, asked for one by one: in the
+/// listing's own room, in one that is full before it, and in one that it fills.
+fn replies(library: &dyn Library, room: usize, count: usize, input: &[u8]) -> Vec<u32> {
+    let rooms = |k| [room, k, k + 1].map(|room| (room, k));
+    let asked = (0..=count + 1).flat_map(rooms);
+    let reply = |(room, k)| reply(library.entry_at(input, room, k));
+    asked.flat_map(reply).collect()
+}
+
+/// 1 and the entry's numbers, or 0 and the final answer's. An input's places and
+/// its entries are few enough for 32 bits.
+fn reply(asked: Asked) -> Vec<u32> {
+    match asked {
+        Asked::Found(entry) => [&[1][..], &entry.numbers()].concat(),
+        Asked::Final {
+            number,
+            place,
+            count,
+        } => vec![0, number, place as u32, count as u32],
+    }
+}
+
+/// One entry asked for. No case does that: tests/linked does, of very many blocks.
+pub fn asked(library: &dyn Library, room: usize, k: usize, input: &[u8]) -> Answer {
+    let asked = library.entry_at(input, room, k);
+    let number = match asked {
+        Asked::Found(_) => None,
+        Asked::Final { number, .. } => Some(number),
+    };
+    let numbers = reply(asked).into_iter();
+    let words: String = numbers.map(|number| format!(" {}", number)).collect();
+    let line = format!("Q{}", words);
+    Answer { line, number }
 }
 
 /// A listing in a table of so many numbers and in so many records. No case

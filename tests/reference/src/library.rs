@@ -4,6 +4,7 @@
 use crate::case::{Placing, Stored};
 use crate::psp::chunks::{AlphaChunk, ImageChunk, LayerChunk, Resolution, SelectionChunk};
 use crate::psp::listing::{self, ENTRY_NUMBERS};
+use crate::psp::pencil::{self, Asked};
 use crate::psp::planes::{self, PlaneAnswer};
 use crate::psp::rectangle::{self, Rectangle};
 use crate::psp::views::{self, PaletteView};
@@ -19,6 +20,7 @@ pub trait Library {
     fn list(&self, input: &[u8], table: &mut [u32]) -> Listed;
     fn list_records(&self, input: &[u8], table: &mut [u32], records: &mut [Record]) -> Listed;
     fn count(&self, input: &[u8], room: usize) -> Listed;
+    fn entry_at(&self, input: &[u8], room: usize, k: usize) -> Asked;
     fn read_plane(&self, input: &[u8], stored: &Stored, destination: &mut [u8]) -> PlaneAnswer;
     fn unpack(&self, stream: &[u8], plane: u64, destination: &mut [u8]) -> PlaneAnswer;
     fn pack(&self, plane: &[u8], destination: &mut [u8]) -> (u32, u64);
@@ -75,6 +77,10 @@ impl Library for Reference {
 
     fn count(&self, input: &[u8], room: usize) -> Listed {
         listed(&listing::list(input, room))
+    }
+
+    fn entry_at(&self, input: &[u8], room: usize, k: usize) -> Asked {
+        pencil::entry_at(input, room, k)
     }
 
     fn read_plane(&self, input: &[u8], stored: &Stored, destination: &mut [u8]) -> PlaneAnswer {

@@ -1,6 +1,6 @@
-//! Document 01 with requests (i), (iv), (vi), (vii) and (ix) of document 02, written
-//! from their text: the listing of a Paint Shop Pro 3.0 file, the plane reader, the
-//! packer, the canvas, the views and the saved table.
+//! Document 01 with requests (i), (iv), (vi), (vii), (ix) and (x) of document 02, written
+//! from their text: the listing of a Paint Shop Pro 3.0 file, with a table and without,
+//! the plane reader, the packer, the canvas, the views and the saved table.
 //!
 //! Nothing here aims at speed or at a small memory. Every function returns an
 //! answer for every input; sums that a file can make large are done in 64 bits.
@@ -9,9 +9,11 @@ pub mod canvas;
 pub mod chunks;
 pub mod listing;
 mod parents;
+pub mod pencil;
 pub mod planes;
 pub mod program;
 pub mod rectangle;
+mod rules;
 pub mod saved;
 pub mod views;
 

@@ -7,6 +7,7 @@ mod generator;
 mod known;
 mod listing;
 mod named;
+mod pencil;
 mod planes;
 mod saved;
 mod views;
@@ -35,6 +36,7 @@ pub fn report() -> bool {
     let compared = cases::systematic();
     named::all(&mut checks, &compared);
     saved::all(&mut checks, &compared);
+    pencil::all(&mut checks, &compared);
     generator::all(&mut checks, &compared);
     for name in &checks.failed {
         println!("failed: {}", name);

@@ -18,15 +18,14 @@ const BLOCKS: usize = 299_555;
 /// Alpha channels without pixels that fit 4 MiB behind the file.
 const ALPHAS: usize = 12_631;
 
-pub fn cases() -> Vec<Case> {
+pub fn cases() -> [Case; 4] {
+    inputs().map(|input| Case::Count { room: ROOM, input })
+}
+
+pub fn inputs() -> [Vec<u8>; 4] {
     let mut claimed = tree(&[]);
     claimed.blocks[1].total = Some(u32::MAX);
-    let trees = [tree(&[]), claimed, tree(&[1, 0]), alphas()];
-    let case = |tree: &Tree| Case::Count {
-        room: ROOM,
-        input: tree.bytes(),
-    };
-    trees.iter().map(case).collect()
+    [tree(&[]), claimed, tree(&[1, 0]), alphas()].map(|tree| tree.bytes())
 }
 
 /// The blocks behind all else in a parent.

@@ -11,7 +11,6 @@ use super::rectangle::{rows, Rectangle};
 /// A parent whose end the walk has not reached.
 pub struct Parent {
     kind: Kind,
-    pub end: u64,
     /// The layer number of its own entry, and of its channels'.
     pub rank: u16,
     /// Layers, alpha channels or channels: announced, and passed so far.
@@ -36,39 +35,38 @@ struct Layer {
 }
 
 impl Parent {
-    fn new(kind: Kind, end: u64, announced: u16) -> Parent {
+    fn new(kind: Kind, announced: u16) -> Parent {
         Parent {
             kind,
-            end,
             rank: 0,
             announced,
             passed: 0,
         }
     }
 
-    pub fn bank(end: u64, image: &ImageChunk) -> Parent {
-        Parent::new(Kind::Bank, end, image.layer_count)
+    pub fn bank(image: &ImageChunk) -> Parent {
+        Parent::new(Kind::Bank, image.layer_count)
     }
 
-    pub fn layer(end: u64, chunk: LayerChunk) -> Parent {
+    pub fn layer(chunk: LayerChunk) -> Parent {
         let layer = Layer {
             chunk,
             colours: 0,
             seen: [[false; 4]; 3],
         };
-        Parent::new(Kind::Layer(layer), end, chunk.channels)
+        Parent::new(Kind::Layer(layer), chunk.channels)
     }
 
-    pub fn selection(end: u64, chunk: SelectionChunk) -> Parent {
-        Parent::new(Kind::Selection(chunk), end, chunk.channels)
+    pub fn selection(chunk: SelectionChunk) -> Parent {
+        Parent::new(Kind::Selection(chunk), chunk.channels)
     }
 
-    pub fn alpha_bank(end: u64, chunk: AlphaBankChunk) -> Parent {
-        Parent::new(Kind::AlphaBank, end, chunk.count)
+    pub fn alpha_bank(chunk: AlphaBankChunk) -> Parent {
+        Parent::new(Kind::AlphaBank, chunk.count)
     }
 
-    pub fn alpha(end: u64, chunk: AlphaChunk) -> Parent {
-        Parent::new(Kind::Alpha(chunk.area), end, chunk.area.channels)
+    pub fn alpha(chunk: AlphaChunk) -> Parent {
+        Parent::new(Kind::Alpha(chunk.area), chunk.area.channels)
     }
 
     /// The only known id of a block inside.

@@ -2,17 +2,17 @@
 use Prim.Native.Nat.{_-_, _≤_}
 use borrow.Author.Needs.{needs}
 use lib.ListN.{length}
-use Rattle.cases.proofs.hash.of_numbers.Statement.{statement}
-use Rattle.cases.proofs.hash.of_numbers.Tie as tie
+use Rattle.cases.proofs.hash.mix_numbers.Statement.{statement}
+use Rattle.cases.proofs.hash.mix_numbers.Tie as tie
 
 abbrev Inv-loop : tie.InvT-loop
-Inv-loop s hash₀ i₀ hash i = i ≤ length s
+Inv-loop before s hash₀ i₀ hash i = i ≤ length s
 
 abbrev μ-loop : tie.MeasureT-loop
-μ-loop s hash₀ i₀ hash i = length s - i
+μ-loop before s hash₀ i₀ hash i = length s - i
 
-pub of-numbers-spec : {M : Type 1} → statement M
-of-numbers-spec =
+pub mix-numbers-spec : {M : Type 1} → statement M
+mix-numbers-spec =
     tie.close
     (tie.spec
     Inv-loop
