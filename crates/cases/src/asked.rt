@@ -44,10 +44,10 @@ pub fn all(input: &[u8], room: usize, count: usize) -> u32 {
     let mut hash = hash::START;
     let mut k = 0;
     while k < past {
-        hash = mixed(hash, pencil::entry_at(input, room, k));
-        hash = mixed(hash, pencil::entry_at(input, k, k));
+        hash = mixed(hash, asking::entry_at(input, room, k));
+        hash = mixed(hash, asking::entry_at(input, k, k));
         k += 1;
-        hash = mixed(hash, pencil::entry_at(input, k, k - 1));
+        hash = mixed(hash, asking::entry_at(input, k, k - 1));
     }
     hash
 }

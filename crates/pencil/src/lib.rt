@@ -1,8 +1,8 @@
-// The listing by pencil (document 02, request x): asked for entry k, it starts at byte 0 and goes from place to place, and keeps no table.
-mod asking;
+// The listing by pencil (document 02, request x): what stands on the paper, what a turn makes of it, and the reply. specs/ says what the turns
+// are and proofs/ where they lead; crate `asking` makes them.
 mod paper;
-mod told;
 
-pub use asking::entry_at;
+pub use paper::Inside;
+pub use paper::Paper;
 pub use paper::Reply;
-pub use told::Asked;
+pub use paper::Turn;

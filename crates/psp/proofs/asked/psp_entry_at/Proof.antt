@@ -1,6 +1,6 @@
 use mathlib.Core.Path.{ap, _∙_}
 use borrow.Author.Needs.{needs}
-use Rattle.pencil.specs.Told.{told}
+use Rattle.asking.specs.Told.{told}
 use Rattle.pencil.proofs.Agree.{agrees}
 use Rattle.psp.proofs.asked.psp_entry_at.Statement.{statement}
 use Rattle.psp.proofs.asked.psp_entry_at.Tie as tie

@@ -2,8 +2,8 @@
 use mathlib.Core.Path.{sym, _∙_}
 use denote.Ref.{now}
 use Rattle.laws.specs.Outcomes.{OneResult}
 use Rattle.pencil.proofs.Agree.{agrees}
-use Rattle.pencil.proofs.asking.entry_at.Reads as entry-at
+use Rattle.asking.proofs.entry_at.Reads as entry-at
 
 pub entry-at-one : OneResult entry-at.Learnt
 entry-at-one l a y z e f p q = let g = agrees _ _ .only _ in g y p ∙ sym (g z q)

@@ -1,11 +1,18 @@
-// Asking for an entry.
-use crate::paper::Paper;
-use crate::paper::Reply;
-use crate::paper::Turn;
+// Asking for one entry (document 02, request x): the turns of crate `pencil`, made one after another. Nothing is kept but one paper.
+mod numbers;
+mod turning;
+
+use pencil::Paper;
+use pencil::Reply;
+use pencil::Turn;
+use turning::turn;
 ghost use Rattle.pencil.specs.Pencil.{Pencil};
+
+pub use numbers::Asked;
+pub use numbers::told;
 
 // Entry k of an input in a room of so many entries, k counted from 0; or the final answer of the listing in this room, where it has no such
-// entry. Nothing is kept but one paper.
+// entry.
 pub fn entry_at(input: &[u8], room: usize, k: usize) -> Reply
     ensures { λ r. ⌜ Pencil (now (input .entry)) room k r ⌝ }
 {
@@ -16,7 +23,7 @@ pub fn entry_at(input: &[u8], room: usize, k: usize) -> Reply
     }
     let mut paper = Paper::FIRST;
     loop {
-        match paper.turn(input, room, k) {
+        match turn(input, room, k, paper) {
             Turn::Says(reply) => {
                 return reply;
             }

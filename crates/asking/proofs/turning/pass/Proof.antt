@@ -3,9 +3,9 @@ use native.Mathlib.Omega.{arith}
 use borrow.Author.Needs.{needs}
 use borrow.Author.Tests.{eq-eqb, ne-eqb}
 use Rattle.laws.proofs.Choice.{pick-yes, pick-no}
 use Rattle.pencil.specs.Pencil.{passed}
-use Rattle.pencil.proofs.paper.Paper.pass.Statement.{statement}
-use Rattle.pencil.proofs.paper.Paper.pass.Tie as tie
+use Rattle.asking.proofs.turning.pass.Statement.{statement}
+use Rattle.asking.proofs.turning.pass.Tie as tie
 
 returns : tie.Need-returns
 unfolding passed

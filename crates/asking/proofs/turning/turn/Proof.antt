@@ -6,28 +6,28 @@ use borrow.Author.Needs.{needs}
 use denote.Ref.{now}
 use Rattle.kinds.specs.Blocks.{Judged, told}
 use Rattle.block.specs.Step.{stepAt}
 use Rattle.pencil.specs.declared.paper.Inside.{Inside}
 use Rattle.pencil.specs.Pencil.{ruleAt, passed, turnBy, turnAt}
 use Rattle.pencil.proofs.Stands.{levels-low}
-use Rattle.pencil.proofs.paper.Paper.turn.Statement.{statement}
-use Rattle.pencil.proofs.paper.Paper.turn.Tie as tie
+use Rattle.asking.proofs.turning.turn.Statement.{statement}
+use Rattle.asking.proofs.turning.turn.Tie as tie
 
 module _ (c : tie.After-look) where
   -- the look is that of the paper
-  judged : told (c .look .result) ≡ ruleAt (now (c .before .before .before .before .before .args .s)) (c .before .before .before .before .before .args .self)
+  judged : told (c .look .result) ≡ ruleAt (now (c .before .before .before .before .before .args .s)) (c .before .before .before .before .before .args .paper)
   judged =
       let a = c .before .before .before .before .before .args in
-      c .look .ensures ∙ ap₂ (λ (end levels : ℕ). stepAt (now (a .s)) (a .self .state) (a .self .place) end levels) (c .before .before .end .ensures) (c .before .levels .ensures)
+      c .look .ensures ∙ ap₂ (λ (end levels : ℕ). stepAt (now (a .s)) (a .paper .state) (a .paper .place) end levels) (c .before .before .end .ensures) (c .before .levels .ensures)
 
   -- so a turn is made by what was looked at
-  by : {k : Judged} → told (c .look .result) ≡ k → let a = c .before .before .before .before .before .args in turnBy (a .room) (a .k) (a .self) k ≡ turnAt (now (a .s)) (a .room) (a .k) (a .self)
+  by : {k : Judged} → told (c .look .result) ≡ k → let a = c .before .before .before .before .before .args in turnBy (a .room) (a .k) (a .paper) k ≡ turnAt (now (a .s)) (a .room) (a .k) (a .paper)
   unfolding turnAt
-  by is = let a = c .before .before .before .before .before .args in ap (turnBy (a .room) (a .k) (a .self)) (sym is ∙ judged)
+  by is = let a = c .before .before .before .before .before .args in ap (turnBy (a .room) (a .k) (a .paper)) (sym is ∙ judged)
 
 look-requires : tie.Need-look-requires
 look-requires c κs =
     let b = c .before .before .before .before in
-    omega (arith, b .pre, c .before .end .ensures, c .levels .ensures, levels-low (b .args .self .inside))
+    omega (arith, b .pre, c .before .end .ensures, c .levels .ensures, levels-low (b .args .paper .inside))
 
 returns : tie.Need-returns
 unfolding turnBy
@@ -47,7 +47,7 @@ returns-4 c =
     let g = c .before .before .before .entry2 .given in
     let a = c .before .before .before .before .before .before .before .before .before .before .args in
     c .pass2 .ensures
-    ∙ ap (λ (x : Inside). passed (a .room) (a .k) (a .self) (g .0 .0) (g .0 .1 .0) x (g .0 .1 .1 .0)) (c .before .enter .ensures)
+    ∙ ap (λ (x : Inside). passed (a .room) (a .k) (a .paper) (g .0 .0) (g .0 .1 .0) x (g .0 .1 .1 .0)) (c .before .enter .ensures)
     ∙ by (c .before .before .before .before .before) (ap told (g .1))
 
 pub turn-spec : {M : Type 1} → statement M

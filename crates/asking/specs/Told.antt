@@ -2,9 +2,9 @@
 use Prim.Native.Nat.{ℕ}
 use Rattle.answer.specs.Answers.{paper}
 use Rattle.entry.specs.Entry.{nowhere}
 use Rattle.pencil.specs.declared.paper.Reply.{Reply}
 use Rattle.pencil.specs.declared.paper.Reply.the-variants.{Found, Final}
-use Rattle.pencil.specs.declared.told.Asked.{Asked}
+use Rattle.asking.specs.declared.numbers.Asked.{Asked}
 
 abbrev pub told : Reply → Asked
 told (Found e) = record { found = 1; listed = record { number = 0; place = 0; count = 0 }; entry = e }

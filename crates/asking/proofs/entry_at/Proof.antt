@@ -6,12 +6,12 @@ use denote.Ref.{now}
 use Rattle.answer.specs.declared.Outcome.{Outcome}
 use Rattle.answer.specs.Answers.{isAccepted}
 use Rattle.listing.specs.Listing.{headOf}
 use Rattle.pencil.specs.declared.paper.Paper.{Paper}
 use Rattle.pencil.specs.Pencil.{header}
 use Rattle.pencil.proofs.Turns.{left}
 use Rattle.pencil.proofs.Follows.{Follows, from-first, may-look, reply-is, goes-on}
-use Rattle.pencil.proofs.asking.entry_at.Statement.{statement}
-use Rattle.pencil.proofs.asking.entry_at.Tie as tie
+use Rattle.asking.proofs.entry_at.Statement.{statement}
+use Rattle.asking.proofs.entry_at.Tie as tie
 
 abbrev Inv-loop : tie.InvT-loop
 Inv-loop input room k paper₀ paper = Follows input room k paper
