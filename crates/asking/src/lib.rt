@@ -7,7 +7,6 @@ use pencil::Reply;
 use pencil::Turn;
 use turning::turn;
 ghost use Rattle.pencil.specs.Pencil.{Pencil};
-
 pub use numbers::Asked;
 pub use numbers::told;
 

@@ -1,6 +1,7 @@
 // One turn of the pencil: what is written next, by the rule of the place where it stands.
 use answer::Answer;
 use answer::Outcome;
+use block::Edge;
 use entry::Entry;
 use kinds::Step;
 use listing::BEYOND;
@@ -12,7 +13,8 @@ use pencil::Reply;
 use pencil::Turn;
 ghost use mathlib.Core.Path.{_≡_};
 ghost use Prim.Native.Nat.{_≤_};
-ghost use Rattle.pencil.specs.Pencil.{endOf, levelsOf, entered, final, outOf, passed, turnAt};
+ghost use Rattle.kinds.specs.Blocks.{told};
+ghost use Rattle.pencil.specs.Pencil.{endOf, levelsOf, entered, final, outOf, passed, turnBy, turnAt};
 ghost use Rattle.pencil.specs.Standing.{Standing};
 
 // Where the inner block ends. At the main level no end is held against a block.
@@ -110,7 +112,26 @@ fn pass(
     })
 }
 
-// What is written next.
+// By what stands at the place: out, stop, on behind the block, or into it.
+fn by(room: usize, k: usize, paper: Paper, step: Step) -> Turn
+    requires { ⌜ paper .count ≤ room ⌝ }
+    ensures { λ r. ⌜ r ≡ turnBy room k paper (told step) ⌝ }
+{
+    let inside = paper.inside;
+    match step {
+        Step::End => out(paper),
+        Step::Stop { refusal, place } => last(paper, Answer::Refused(refusal), place),
+        Step::Leaf { entry, next, state } => pass(room, k, paper, entry, next, inside, state),
+        Step::Nest {
+            entry,
+            inside: first,
+            state,
+            after,
+        } => pass(room, k, paper, entry, first, enter(inside, after), state),
+    }
+}
+
+// What is written next. This is `block::look` at the place, in its two parts: a step that is handed on would be copied.
 pub fn turn(s: &[u8], room: usize, k: usize, paper: Paper) -> Turn
     requires { ⌜ Standing (now s) room paper ⌝ }
     ensures { λ r. ⌜ r ≡ turnAt (now (s .entry)) room k paper ⌝ }
@@ -119,19 +140,14 @@ pub fn turn(s: &[u8], room: usize, k: usize, paper: Paper) -> Turn
     let state = paper.state;
     let end = end(inside);
     let levels = levels(inside);
-    match block::look(s, state, paper.place, end, levels) {
-        Step::End => out(paper),
-        Step::Stop { refusal, place } => last(paper, Answer::Refused(refusal), place),
-        Step::Leaf {
-            entry,
-            next,
-            state: q,
-        } => pass(room, k, paper, entry, next, inside, q),
-        Step::Nest {
-            entry,
-            inside: first,
-            state: q,
-            after,
-        } => pass(room, k, paper, entry, first, enter(inside, after), q),
+    match block::edge_at(s, state, paper.place, end, levels) {
+        Edge::End => out(paper),
+        Edge::Stop(refusal) => last(paper, Answer::Refused(refusal), paper.place),
+        Edge::Block => by(
+            room,
+            k,
+            paper,
+            block::block(s, state, paper.place, end, levels),
+        ),
     }
 }

@@ -1,4 +1,5 @@
 -- What one look owes the walk, and the analysis of a step behind it.
+pub mod Edges
 pub mod Passed
 pub mod Stepped
 pub mod Owed

@@ -8,6 +8,8 @@ use Rattle.memory.specs.declared.state.State.{State}
 use Rattle.kinds.specs.declared.Step.{Step}
 use Rattle.kinds.specs.declared.Step.the-variants as code
 use Rattle.kinds.specs.Blocks.{told}
+use Rattle.block.proofs.header.block.Reads as block
+use Rattle.block.proofs.looking.edge_at.Reads as edge-at
 use Rattle.block.proofs.looking.look.Reads as look
 
 back : walk.Step State → Step
@@ -25,3 +27,9 @@ told-back (code.Nest e inside st after) = refl
 
 pub look-one : OneResult look.Learnt
 look-one l a y z e f p q = answer-one told back told-back y z (one p q)
+
+pub block-one : OneResult block.Learnt
+block-one l a y z e f p q = answer-one told back told-back y z (one p q)
+
+pub edge-at-one : OneResult edge-at.Learnt
+edge-at-one l a y z e f = one

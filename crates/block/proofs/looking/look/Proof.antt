@@ -1,46 +1,36 @@
-use mathlib.Core.Path.{sym, ap, _∙_}
-use borrow.Author.Tests.{eq-eqb, ne-eqb}
+use mathlib.Core.Path.{_≡_, sym, ap, _∙_}
 use borrow.Author.Needs.{needs}
-use Rattle.laws.proofs.Choice.{pick-yes, pick-no}
-use Rattle.memory.specs.State.{isFull}
+use denote.Ref.{now}
+use Rattle.block.specs.declared.looking.Edge.{Edge}
 use Rattle.block.specs.Step.{stepAt}
+use Rattle.block.specs.Edge.{edged}
+use Rattle.block.proofs.Edges.{edge-step}
 use Rattle.block.proofs.looking.look.Statement.{statement}
 use Rattle.block.proofs.looking.look.Tie as tie
 
+-- what stands there, by what is known before a header is read
+by : (c : tie.After-edge-at) {e : Edge} → c .edge-at .result ≡ e → let a = c .before .before .args in
+    edged (now (a .s)) (a .st) (a .at) (a .end) (a .levels) e ≡ stepAt (now (a .s)) (a .st) (a .at) (a .end) (a .levels)
+by c is = let a = c .before .before .args in ap (edged (now (a .s)) (a .st) (a .at) (a .end) (a .levels)) (sym is ∙ c .edge-at .ensures) ∙ edge-step _ _ _ _ _
+
 returns : tie.Need-returns
-returns c = c .inside .ensures
+returns c = by (c .before .before) (c .enum-told .given .1)
 
 returns-2 : tie.Need-returns-2
-unfolding stepAt
-returns-2 c =
-    c .block .ensures
-    ∙ sym (pick-yes _ _ _ (eq-eqb _ _ (c .before .before .if1 .left)) ∙ pick-no _ _ _ (ne-eqb _ _ (c .before .if2 .taken)))
+returns-2 c = by (c .before .before .before) (c .before .refusal .given .1)
 
 returns-3 : tie.Need-returns-3
-unfolding stepAt
-returns-3 c =
-    let asked = c .before .before in
-    sym (pick-yes _ _ _ (eq-eqb _ _ (asked .before .before .if1 .left))
-    ∙ pick-yes _ _ _ (eq-eqb _ _ (asked .before .if2 .left))
-    ∙ pick-yes _ _ _ (sym (c .before .full .ensures ∙ ap (isFull _) (asked .at .ensures)) ∙ c .if3 .taken))
-
-returns-4 : tie.Need-returns-4
-unfolding stepAt
-returns-4 c =
-    let asked = c .before .before in
-    sym (pick-yes _ _ _ (eq-eqb _ _ (asked .before .before .if1 .left))
-    ∙ pick-yes _ _ _ (eq-eqb _ _ (asked .before .if2 .left))
-    ∙ pick-no _ _ _ (sym (c .before .full .ensures ∙ ap (isFull _) (asked .at .ensures)) ∙ c .if3 .left))
+returns-3 c = c .block .ensures ∙ by (c .before .before .before) (c .before .enum-told2 .given .1)
 
 pub look-spec : {M : Type 1} → statement M
 look-spec =
     tie.close
     (tie.spec
     (λ c κs. search needs)
+    (λ c. search needs)
+    (λ c. search needs)
+    (λ c. search needs)
+    (λ c κs. search needs)
     returns
-    (λ c κs. search needs)
     returns-2
-    (λ c κs. search needs)
-    (λ c κs. search needs)
-    returns-3
-    returns-4)
+    returns-3)
