@@ -1,5 +1,5 @@
-// The pencil's replies of an L case, as one hash: to each k up to one past the end, in the case's room, in a room that ends before entry k
-// and in one that ends behind it. A reply is 1 and the entry's numbers, or 0 and the final answer.
+// The pencil's replies of an L case, as one hash: to each k and two past the last, in the case's room, in a room that is full before entry k and
+// in one that it fills. A reply is 1 and the entry's numbers, or 0 and the final answer.
 use crate::hash;
 use answer::Told;
 use entry::Entry;
