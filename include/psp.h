@@ -143,8 +143,8 @@ typedef struct psp_asked {
 } psp_asked;
 
 /* Gives entry k of a listing in a room of so many entries, from 0, and where there is none the listing's answer (0 to 12): what psp_list
- * would store as that entry, and what psp_count answers. It steps from byte 0 block by block, keeps no table and writes nothing, and looks
- * at nothing behind the entry. With room SIZE_MAX every entry of the input is there. */
+ * would store as that entry, and what psp_count answers. It walks the input anew each time, up to the entry and not behind it, and nothing
+ * is stored. With room SIZE_MAX every entry of the input is there. */
 psp_asked psp_entry_at(const uint8_t *input, size_t length, size_t room, size_t k);
 
 /* ---- Planes ---- */

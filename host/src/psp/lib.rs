@@ -71,7 +71,7 @@ pub enum Asked {
 }
 
 /// Gives entry `k` of a listing in a room of so many entries, from 0, or the listing's final answer.
-/// It steps from byte 0 block by block, keeps no table, and looks at nothing behind the entry. With
+/// It walks the input anew each time, up to the entry and not behind it, and nothing is stored. With
 /// room `usize::MAX` every entry of the input is there.
 pub fn entry_at(input: &[u8], room: usize, k: usize) -> Asked {
     let asked = numbers::entry_at(input, room, k);

@@ -1,6 +1,5 @@
-//! Request (x): entry k of a listing, followed with a pencil. It starts at byte 0 and
-//! goes from block to block without a table: beside what the rules remember it keeps
-//! a place, the ends of at most two open parents, and a count.
+//! Request (x): entry k of a listing, as one would find it by hand. Beside what the
+//! rules remember it keeps a place, the ends of at most two open parents, and a count.
 
 use super::listing::Entry;
 use super::number;
