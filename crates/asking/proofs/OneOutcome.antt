@@ -1,6 +1,5 @@
 -- The contract leaves the code no choice: any two replies that the pencil may give are one.
 use mathlib.Core.Path.{sym, _∙_}
-use denote.Ref.{now}
 use Rattle.laws.specs.Outcomes.{OneResult}
 use Rattle.pencil.proofs.Agree.{agrees}
 use Rattle.asking.proofs.entry_at.Reads as entry-at

@@ -1,5 +1,4 @@
 -- A reply in numbers: which of the two it is, and zeros for the other.
-use Prim.Native.Nat.{ℕ}
 use Rattle.answer.specs.Answers.{paper}
 use Rattle.entry.specs.Entry.{nowhere}
 use Rattle.pencil.specs.declared.paper.Reply.{Reply}

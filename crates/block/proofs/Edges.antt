@@ -1,5 +1,5 @@
 -- What is known of a place before a header is read makes its step.
-use mathlib.Core.Path.{_≡_, refl}
+use mathlib.Core.Path.{_≡_, refl, sym, ap, _∙_}
 use mathlib.Core.Bool.{Bool, true, false}
 use mathlib.Core.List.{List}
 use Prim.Native.Nat.{ℕ, _-_}
@@ -13,6 +13,7 @@ use Rattle.memory.specs.declared.state.State.{State}
 use Rattle.memory.specs.Parent.{main, parentAt}
 use Rattle.memory.specs.State.{isFull}
 use Rattle.kinds.specs.Blocks.{unless}
+use Rattle.block.specs.declared.looking.Edge.{Edge}
 use Rattle.block.specs.declared.looking.Edge.the-variants.{End, Stop, Block}
 use Rattle.block.specs.Step.{blockAt, stepAt}
 use Rattle.block.specs.Edge.{edgeOf, edged}
@@ -38,3 +39,7 @@ module _ (s : List ℕ) (st : State) (at end levels : ℕ) where
   unfolding edgeOf stepAt
   edge-step =
       by-tests (eqb levels main) (eqb at (length s)) (eqb at end) (ltb (end - at) blockHeaderSize) (isFull st (parentAt (st .opened) levels))
+
+  -- so where that is known, the step is
+  pub edge-known : {e : Edge} → edgeOf s st at end levels ≡ e → edged s st at end levels e ≡ stepAt s st at end levels
+  edge-known is = ap (edged s st at end levels) (sym is) ∙ edge-step

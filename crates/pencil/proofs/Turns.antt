@@ -8,7 +8,6 @@ use borrow.Author.Tests.{eqb-true, eqb-false, lt-ltb, le-ltb}
 use lib.ListN.{length, getD, length-append}
 use Rattle.laws.proofs.Choice.{pick-yes, pick-no, pick-ind}
 use Rattle.answer.specs.declared.Answer.{Answer}
-use Rattle.answer.specs.declared.Answer.the-variants.{Accepted, TableFull}
 use Rattle.answer.specs.Answers.{isAccepted}
 use Rattle.answer.proofs.Names.{not-accepted}
 use Rattle.entry.specs.declared.Entry.{Entry}

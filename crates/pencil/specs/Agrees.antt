@@ -7,7 +7,6 @@ use lib.ListN.{length, getD}
 use Rattle.laws.specs.Choice.{pick}
 use Rattle.answer.specs.declared.Outcome.{Outcome}
 use Rattle.answer.specs.Answers.{paper}
-use Rattle.entry.specs.declared.Entry.{Entry}
 use Rattle.entry.specs.Entry.{size, nowhere, entryAt}
 use Rattle.walk.specs.Room.{Listed}
 use Rattle.listing.specs.Listing.{listed, lists}

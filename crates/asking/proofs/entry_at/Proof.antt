@@ -6,7 +6,6 @@ use denote.Ref.{now}
 use Rattle.answer.specs.declared.Outcome.{Outcome}
 use Rattle.answer.specs.Answers.{isAccepted}
 use Rattle.listing.specs.Listing.{headOf}
-use Rattle.pencil.specs.declared.paper.Paper.{Paper}
 use Rattle.pencil.specs.Pencil.{header}
 use Rattle.pencil.proofs.Turns.{left}
 use Rattle.pencil.proofs.Follows.{Follows, from-first, may-look, reply-is, goes-on}

@@ -1,6 +1,5 @@
 use mathlib.Core.Path.{sym, ap}
 use borrow.Author.Needs.{needs}
-use Rattle.pencil.specs.declared.paper.Inside.{Inside}
 use Rattle.pencil.specs.Pencil.{entered}
 use Rattle.asking.proofs.turning.enter.Statement.{statement}
 use Rattle.asking.proofs.turning.enter.Tie as tie

@@ -7,7 +7,7 @@ use denote.Ref.{now}
 use Rattle.block.specs.declared.looking.Edge.{Edge}
 use Rattle.block.specs.Step.{stepAt}
 use Rattle.block.specs.Edge.{edged}
-use Rattle.block.proofs.Edges.{edge-step}
+use Rattle.block.proofs.Edges.{edge-known}
 use Rattle.pencil.specs.Pencil.{ruleAt, turnBy, turnAt}
 use Rattle.pencil.proofs.Stands.{levels-low}
 use Rattle.asking.proofs.turning.turn.Statement.{statement}
@@ -18,8 +18,7 @@ judged : (c : tie.After-edge-at) {e : Edge} → c .edge-at .result ≡ e → let
     edged (now (a .s)) (a .paper .state) (a .paper .place) (c .before .before .end .result) (c .before .levels .result) e ≡ ruleAt (now (a .s)) (a .paper)
 judged c is =
     let a = c .before .before .before .before .before .args in
-    ap (edged (now (a .s)) (a .paper .state) (a .paper .place) (c .before .before .end .result) (c .before .levels .result)) (sym is ∙ c .edge-at .ensures)
-    ∙ edge-step _ _ _ _ _
+    edge-known _ _ _ _ _ (sym (c .edge-at .ensures) ∙ is)
     ∙ ap₂ (λ (end levels : ℕ). stepAt (now (a .s)) (a .paper .state) (a .paper .place) end levels) (c .before .before .end .ensures) (c .before .levels .ensures)
 
 -- so a turn is made by it

@@ -1,17 +1,17 @@
-use mathlib.Core.Path.{_≡_, sym, ap, _∙_}
+use mathlib.Core.Path.{_≡_, sym, _∙_}
 use borrow.Author.Needs.{needs}
 use denote.Ref.{now}
 use Rattle.block.specs.declared.looking.Edge.{Edge}
 use Rattle.block.specs.Step.{stepAt}
 use Rattle.block.specs.Edge.{edged}
-use Rattle.block.proofs.Edges.{edge-step}
+use Rattle.block.proofs.Edges.{edge-known}
 use Rattle.block.proofs.looking.look.Statement.{statement}
 use Rattle.block.proofs.looking.look.Tie as tie
 
--- what stands there, by what is known before a header is read
+-- the step of the place, by what is known before a header is read
 by : (c : tie.After-edge-at) {e : Edge} → c .edge-at .result ≡ e → let a = c .before .before .args in
     edged (now (a .s)) (a .st) (a .at) (a .end) (a .levels) e ≡ stepAt (now (a .s)) (a .st) (a .at) (a .end) (a .levels)
-by c is = let a = c .before .before .args in ap (edged (now (a .s)) (a .st) (a .at) (a .end) (a .levels)) (sym is ∙ c .edge-at .ensures) ∙ edge-step _ _ _ _ _
+by c is = edge-known _ _ _ _ _ (sym (c .edge-at .ensures) ∙ is)
 
 returns : tie.Need-returns
 returns c = by (c .before .before) (c .enum-told .given .1)
