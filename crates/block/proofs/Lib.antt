@@ -2,5 +2,6 @@
 pub mod Edges
 pub mod Passed
 pub mod Stepped
+pub mod Read
 pub mod Owed
 pub mod OneOutcome

@@ -9,8 +9,8 @@ use lib.ListN.{length, length-append}
 use Rattle.laws.proofs.Choice.{pick-no, pick-ind, pick-ind₂, pick-left}
 use Rattle.entry.specs.declared.Entry.{Entry}
 use Rattle.walk.specs.Walk.{Step}
-use Rattle.walk.specs.Owed.{Owns, Opens, Moves, ends, stops, leaf, nest, MovesOn, soon, last, Rules, Beyond, last-end, refused, leaf-past, nest-past, Waits, stays, waits, WaitsOn, Prompt}
-use Rattle.walk.proofs.Unit.{unit-ind, unit-waits, unit-waits-to}
+use Rattle.walk.specs.Owed.{Owns, Opens, Moves, ends, stops, leaf, nest, MovesOn, soon, last, Rules, Beyond, last-end, refused, leaf-past, nest-past, Waits, stays, waits, WaitsOn, Prompt, Reads}
+use Rattle.walk.proofs.Unit.{reads-past, unit-waits, unit-waits-to}
 use Rattle.walk.proofs.Prefix.{waits-keeps}
 use Rattle.headers.specs.declared.block_header.BlockHeader.{BlockHeader}
 use Rattle.headers.specs.BlockHeader.{blockHeaderSize}
@@ -28,11 +28,15 @@ use Rattle.memory.specs.declared.places.Placing.{Placing}
 use Rattle.memory.specs.declared.places.Placing.the-variants.{Refuse, Enter, Skip}
 use Rattle.memory.specs.declared.state.State.{State}
 use Rattle.memory.specs.Parent.{main, levelOf}
-use Rattle.kinds.specs.Blocks.{nestBlock, imageJudged, paletteJudged, paletteCounted, imageBlock, paletteBlock, bankBlock, skipBlock}
-use Rattle.layers.specs.Layers.{channelJudged, channelSized, channelCoded, layerBlock, channelBlock}
+use Rattle.kinds.specs.Blocks.{nestBlock, paletteCounted, imageBlock, paletteBlock, skipBlock}
+use Rattle.layers.specs.Layers.{channelSized, channelCoded, layerBlock, channelBlock}
 use Rattle.masks.specs.Masks.{selectionBlock, alphaBankBlock, alphaBlock}
+use Rattle.kinds.specs.Unread.{Unread}
 use Rattle.kinds.proofs.Judging.{permitted-ind, permitted-ind₂}
+use Rattle.kinds.proofs.Read.{image-reads, palette-reads}
+use Rattle.layers.proofs.Read.{channel-reads}
 use Rattle.block.specs.Step.{kindOf, placedOf, blockAt, stepAt}
+use Rattle.block.proofs.Read.{block-reads}
 use Rattle.block.proofs.Stepped.{LeafOf, an-image, a-palette, a-channel, a-skip, Inside, NestOf, a-bank, a-layer, a-selection, an-alpha-bank, an-alpha, Stepped, accepted, ended, stopped, named, leafed, nested, stepped}
 
 -- ### Each step moves on
@@ -93,72 +97,18 @@ moves s st at end levels order low = moved s st at end levels (stepped s st at e
 
 -- ### A block waits for its own bytes, and for no more
 
--- whatever the input, a block's entry ends behind its units
-module _ (len levels : ℕ) (s : List ℕ) (st : State) (at level : ℕ) where
-  abbrev B : Step State → Type 0
-  B = Beyond len main levels
-
-  image-past : len < at + imageHead → (chunk : _) → B (imageJudged st at level chunk)
-  image-past far c = permitted-ind B _ _ _ (λ _ _. refused) (λ _. pick-ind B _ _ _ (λ _. refused) (λ _. leaf-past far))
-
-  palette-past : len < at + paletteHead → (total : ℕ) (chunk : _) → B (paletteJudged s st total at level chunk)
-  unfolding paletteCounted
-  palette-past far total c =
-      let past : len < at + paletteHead + 4 * c .count = omega arith in
-      permitted-ind B _ _ _ (λ _ _. refused) (λ _.
-      pick-ind B _ _ _ (λ _. unit-ind B s (at + paletteHead) (4 * c .count) _ (λ _. refused) (λ _. leaf-past past)) (λ _. refused))
-
-  nest-block-past :
-      (total size : ℕ) (fault : List ℕ → Fault) (e : Entry) (q : List ℕ → State) → len < at + (blockHeaderSize + size)
-      → B (nestBlock s total at size fault e q)
-  nest-block-past total size fault e q far =
-      unit-ind B s (at + blockHeaderSize) size _ (λ _. refused) (λ _. permitted-ind B _ _ _ (λ _ _. refused) (λ _. nest-past far))
-
-  channel-past : len < at + channelHead → (parent : Parent) (total : ℕ) (chunk : _) → B (channelJudged s st parent total at level chunk)
-  unfolding channelCoded channelSized
-  channel-past far parent total c =
-      let past : len < at + channelHead + c .stored = omega arith in
-      pick-ind B _ _ _
-      (λ _. permitted-ind B _ _ _ (λ _ _. refused) (λ _. pick-ind B _ _ _
-      (λ _. permitted-ind B _ _ _ (λ _ _. refused) (λ _. unit-ind B s (at + channelHead) (c .stored) _ (λ _. refused) (λ _. leaf-past past)))
-      (λ _. refused)))
-      (λ _. refused)
-
-  -- a block whose header is not all there
-  module _ (far : len < at + blockHeaderSize) (h : BlockHeader) where
-    skip-past : B (skipBlock s st (h .id) (h .total) at level)
-    unfolding skipBlock
-    skip-past =
-        let past : len < at + blockHeaderSize + h .total = omega arith in
-        unit-ind B s (at + blockHeaderSize) (h .total) _ (λ _. refused) (λ _. leaf-past past)
-
-    kind-past : (parent : Parent) → B (kindOf s st parent h at level)
-    unfolding kindOf imageBlock paletteBlock bankBlock layerBlock channelBlock selectionBlock alphaBankBlock alphaBlock
-    kind-past parent =
-        let to : (n : ℕ) → len < at + (blockHeaderSize + n) = λ n. omega arith in
-        pick-ind B _ _ _ (λ _. unit-ind B s (at + blockHeaderSize) imageSize _ (λ _. refused) (λ _. image-past (to imageSize) _)) (λ _.
-        pick-ind B _ _ _ (λ _. unit-ind B s (at + blockHeaderSize) paletteSize _ (λ _. refused) (λ _. palette-past (to paletteSize) (h .total) _)) (λ _.
-        pick-ind B _ _ _ (λ _. nest-past far) (λ _.
-        pick-ind B _ _ _ (λ _. nest-block-past (h .total) layerSize _ _ _ (to layerSize)) (λ _.
-        pick-ind B _ _ _ (λ _. nest-block-past (h .total) selectionSize _ _ _ (to selectionSize)) (λ _.
-        pick-ind B _ _ _ (λ _. nest-block-past (h .total) alphaBankSize _ _ _ (to alphaBankSize)) (λ _.
-        pick-ind B _ _ _ (λ _. nest-block-past (h .total) alphaSize _ _ _ (to alphaSize)) (λ _.
-        unit-ind B s (at + blockHeaderSize) channelSize _ (λ _. refused) (λ _. channel-past (to channelSize) parent (h .total) _))))))))
-
-    placed-past : (parent : Parent) (end : ℕ) (a : Placing) → B (placedOf s st parent h a at end level)
-    unfolding placedOf
-    placed-past parent end Refuse = refused
-    placed-past parent end Enter = pick-ind B _ _ _ (λ _. refused) (λ _. pick-ind B _ _ _ (λ _. kind-past parent) (λ _. refused))
-    placed-past parent end Skip = pick-ind B _ _ _ (λ _. skip-past) (λ _. refused)
-
 module _ (s t : List ℕ) (st : State) (at end levels level : ℕ) where
   abbrev W : Step State → Step State → Type 0
   W = Waits (length s) main levels
 
+  -- an entry reaches behind the bytes that are read for it
+  past : {k : Step State} → Reads Unread (length s) k → Beyond (length s) main levels k
+  past {k} = reads-past Unread main levels (length s) k
+
   palette-waits : (total : ℕ) → W (paletteBlock s st total at level) (paletteBlock (s ++ t) st total at level)
   unfolding paletteBlock paletteCounted
   palette-waits total =
-      unit-waits main levels s t (at + blockHeaderSize) paletteSize _ _ (λ short xs. palette-past (length s) levels (s ++ t) st at level (omega arith) total _) (λ xs.
+      unit-waits main levels s t (at + blockHeaderSize) paletteSize _ _ (λ short xs. past (palette-reads (s ++ t) st at level (length s) (omega arith) total _)) (λ xs.
       permitted-ind₂ W _ _ _ _ (λ _. stays _) (pick-ind₂ W _ _ _ _ _
       (λ _. unit-waits main levels s t (at + paletteHead) _ _ _ (λ short _. leaf-past short) (λ _. stays _))
       (λ _. stays _)))
@@ -166,7 +116,7 @@ module _ (s t : List ℕ) (st : State) (at end levels level : ℕ) where
   channel-waits : (parent : Parent) (total : ℕ) → W (channelBlock s st parent total at level) (channelBlock (s ++ t) st parent total at level)
   unfolding channelBlock channelCoded channelSized
   channel-waits parent total =
-      unit-waits main levels s t (at + blockHeaderSize) channelSize _ _ (λ short xs. channel-past (length s) levels (s ++ t) st at level (omega arith) parent total _) (λ xs.
+      unit-waits main levels s t (at + blockHeaderSize) channelSize _ _ (λ short xs. past (channel-reads (s ++ t) st at level (length s) (omega arith) parent total _)) (λ xs.
       pick-ind₂ W _ _ _ _ _
       (λ _. permitted-ind₂ W _ _ _ _ (λ _. stays _) (pick-ind₂ W _ _ _ _ _
       (λ _. permitted-ind₂ W _ _ _ _ (λ _. stays _) (unit-waits main levels s t (at + channelHead) _ _ _ (λ short _. leaf-past short) (λ _. stays _)))
@@ -188,7 +138,7 @@ module _ (s t : List ℕ) (st : State) (at end levels level : ℕ) where
   unfolding kindOf imageBlock layerBlock selectionBlock alphaBankBlock alphaBlock
   kind-waits parent h =
       pick-ind₂ W _ _ _ _ _
-      (λ _. unit-waits main levels s t (at + blockHeaderSize) imageSize _ _ (λ short xs. image-past (length s) levels s st at level (omega arith) _) (λ _. stays _)) (λ _.
+      (λ _. unit-waits main levels s t (at + blockHeaderSize) imageSize _ _ (λ short xs. past (image-reads s st at level (length s) (omega arith) _)) (λ _. stays _)) (λ _.
       pick-ind₂ W _ _ _ _ _ (λ _. palette-waits (h .total)) (λ _.
       pick-ind₂ W _ _ _ _ _ (λ _. stays _) (λ _.
       pick-ind₂ W _ _ _ _ _ (λ _. nest-block-waits (h .total) layerSize _ _ _) (λ _.
@@ -202,12 +152,6 @@ module _ (s t : List ℕ) (st : State) (at end levels level : ℕ) where
   placed-waits parent h Refuse = stays _
   placed-waits parent h Enter = pick-ind₂ W _ _ _ _ _ (λ _. stays _) (λ _. pick-ind₂ W _ _ _ _ _ (λ _. kind-waits parent h) (λ _. stays _))
   placed-waits parent h Skip = pick-ind₂ W _ _ _ _ _ (λ _. skip-waits h) (λ _. stays _)
-
-block-past : (len : ℕ) (s : List ℕ) (st : State) (at end levels : ℕ) → len < at + blockHeaderSize → Beyond len main levels (blockAt s st at end levels)
-unfolding blockAt
-block-past len s st at end levels far =
-    let B = Beyond len main levels in
-    unit-ind B s at blockHeaderSize _ (λ _. refused) (λ _. pick-ind B _ _ _ (λ _. placed-past len levels s st at (levelOf levels) far _ _ end _) (λ _. refused))
 
 -- a step k on more input, which is the block there where the header was present already
 block-waits :
@@ -223,7 +167,8 @@ unfolding stepAt
 waiting s t st at end levels order low =
     let W = Waits (length s) main levels in
     let B = Beyond (length s) main levels in
-    let beyond : length s < at + blockHeaderSize → B (blockAt (s ++ t) st at end levels) = block-past (length s) (s ++ t) st at end levels in
+    let beyond : length s < at + blockHeaderSize → B (blockAt (s ++ t) st at end levels) =
+    λ short. reads-past Unread main levels (length s) _ (block-reads (s ++ t) st at end levels (length s) short) in
     pick-ind₂ W _ _ _ _ _
     (λ top.
     let is = eqb-true levels main top in

@@ -2,3 +2,4 @@
 pub mod Order
 pub mod Rules
 pub mod OneOutcome
+pub mod BehindName

@@ -1,12 +1,13 @@
--- A number is that of its own bytes: lists that begin alike have the same numbers there.
+-- A number is that of its own bytes: lists that begin alike, or end alike, have the same numbers there.
 use mathlib.Core.Path.{_≡_, refl, sym, ap, _∙_}
 use mathlib.Core.Bool.{true}
 use mathlib.Core.List.{List, [], _∷_}
-use Prim.Native.Nat.{ℕ, zero, suc, _+_, _≤_}
+use Prim.Native.Nat.{ℕ, zero, suc, _+_, _-_, _≤_}
 use native.Mathlib.Omega.{arith}
 use borrow.Author.Tests.{leb-true}
 use lib.Dec.{leb}
 use lib.ListN.{take, drop}
+use lib.Seq.{drop-drop}
 use Rattle.endian.specs.Number.{le, numberAt}
 
 pub le-front : (n m : ℕ) (s : List ℕ) → n ≤ m → le n (take m s) ≡ le n s
@@ -27,3 +28,10 @@ unfolding numberAt
 number-front s t n at m h same =
     let low = leb-true (at + n) m h in
     sym (front n at m s low) ∙ ap (λ (l : List ℕ). le n (drop at l)) same ∙ front n at m t low
+
+pub number-behind : (s t : List ℕ) (n at m : ℕ) → m ≤ at → drop m s ≡ drop m t → numberAt n s at ≡ numberAt n t at
+unfolding numberAt
+number-behind s t n at m h same =
+    let behind : (l : List ℕ) → drop (at - m) (drop m l) ≡ drop at l =
+    λ l. let there : m + (at - m) ≡ at = omega arith in drop-drop (at - m) m l ∙ ap (λ (k : ℕ). drop k l) there in
+    sym (ap (le n) (behind s)) ∙ ap (λ (l : List ℕ). le n (drop (at - m) l)) same ∙ ap (le n) (behind t)

@@ -1,7 +1,8 @@
 -- An entry by what it tells of its block, its fourteen numbers in the table's order, and where a table keeps them (document 01, "The table").
 use Prim.Native.Nat.{ℕ, _+_, _*_, _/_}
+use mathlib.Core.Bool.{Bool, _&&_}
 use mathlib.Core.List.{List, [], _∷_, _++_}
-use lib.Dec.{ltb}
+use lib.Dec.{eqb, ltb}
 use lib.ListN.{length, getD}
 use Rattle.laws.specs.Choice.{pick}
 use Rattle.laws.specs.Lists.{over}
@@ -40,6 +41,10 @@ filled b c = record { block = b; layer = 0; code = code 0 0; content = c; size =
 -- no entry
 abbrev pub nowhere : Entry
 nowhere = plain (block 0 0 0 0 0)
+
+-- an entry of this id, of a block that is not skipped
+abbrev pub isKind : ℕ → Entry → Bool
+isKind id e = eqb (e .block .skipped) 0 && eqb (e .block .id) id
 
 -- ### In a table
 

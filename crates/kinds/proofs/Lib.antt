@@ -1,2 +1,3 @@
 -- Laws about the kinds of block.
 pub mod Judging
+pub mod Read

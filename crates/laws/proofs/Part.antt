@@ -5,7 +5,7 @@ use Prim.Native.Nat.{ℕ, _+_, _-_, _≤_, _<_}
 use native.Mathlib.Numerals.{add-one}
 use native.Mathlib.Omega.{arith}
 use lib.ListN.{length, take, drop, set, getD, length-take, length-drop, drop-of-length-le}
-use lib.Seq.{take-all, take-add, drop-cons, drop-drop, drop-append-le, take-append-le, take-suc-set, getD-take, getD-drop}
+use lib.Seq.{take-all, take-add, drop-cons, drop-drop, drop-append-le, take-append-le, take-suc-set, getD-take, getD-drop, ext-getD}
 use Rattle.laws.specs.Lists.{part, over}
 use Rattle.laws.proofs.Over.{over-length, over-one, over-over}
 
@@ -100,3 +100,20 @@ module _ {A : Type 0} where
   unfolding part
   part-longer s t at n h =
       ap (take n) (drop-append-le at s t (omega arith)) ∙ take-append-le n (drop at s) t (omega (arith, length-drop at s))
+
+  -- ### Of two lists of one length
+
+  -- parts that are alike from their m-th element on
+  pub part-alike :
+      (s s' : List A) (at n m : ℕ) (d : A) → length s ≡ length s' → ((i : ℕ) → at + m ≤ i → i < at + n → getD s i d ≡ getD s' i d)
+      → drop m (part s at n) ≡ drop m (part s' at n)
+  unfolding part
+  part-alike s s' at n m d same alike =
+      let long : (l : List A) → length l ≡ length s → length (drop m (take n (drop at l))) ≡ length (drop m (take n (drop at s))) =
+      λ l e. omega (arith, length-drop m (take n (drop at l)), length-drop m (take n (drop at s)), length-take n (drop at l), length-take n (drop at s), length-drop at l, length-drop at s) in
+      ext-getD d _ _ (sym (long s' (sym same))) (λ i h.
+      let near : m + i < n = omega (arith, length-drop m (take n (drop at s)), length-take n (drop at s)) in
+      getD-drop m (take n (drop at s)) i d
+      ∙ part-at s at n (m + i) d near
+      ∙ alike (at + (m + i)) (omega arith) (omega arith)
+      ∙ sym (getD-drop m (take n (drop at s')) i d ∙ part-at s' at n (m + i) d near))

@@ -10,6 +10,7 @@ use borrow.Author.Tests.{le-ltb, lt-ltb, ltb-false}
 use lib.ListN.{length, length-append}
 use Rattle.limits.specs.Limits.{inputLimit}
 use Rattle.laws.specs.Choice.{pick}
+use Rattle.laws.specs.Lists.{part}
 use Rattle.laws.proofs.Choice.{pick-yes, pick-no, pick-ind}
 use Rattle.laws.proofs.Part.{part-longer}
 use Rattle.laws.proofs.Tests.{never, yes-or-no, less-or-not}
@@ -56,6 +57,11 @@ head-longer s t small = by (less-or-not (length s) fileHeaderSize)
         (judged s within there
         ∙ ap (λ (b : List ℕ). said (fileHeaderOf b)) (sym (part-longer s t 0 fileHeaderSize there))
         ∙ sym (judged (s ++ t) small (omega (arith, length-append s t))))
+
+-- and of another input of that length it is the same, if its bytes are
+pub head-alike : (s s' : List ℕ) → length s ≡ length s' → part s 0 fileHeaderSize ≡ part s' 0 fileHeaderSize → headOf s ≡ headOf s'
+unfolding headOf
+head-alike s s' same alike = rw (same, alike) refl
 
 -- no entry is counted before any block
 abbrev Uncounted : Outcome → Type 0

@@ -19,7 +19,7 @@ use Rattle.laws.proofs.Along.{along-more}
 use Rattle.rect.specs.Rows.{sidesOf}
 use Rattle.entry.specs.declared.Code.{Code}
 use Rattle.entry.specs.declared.Entry.{Entry}
-use Rattle.entry.specs.Entry.{block, plain}
+use Rattle.entry.specs.Entry.{block, plain, isKind}
 use Rattle.walk.specs.Parents.{Holder, holds, holding, holder}
 use Rattle.walk.proofs.Parents.{holder-new, holder-held, holder-same}
 use Rattle.attributes.specs.declared.fault.Fault.the-variants.{None}
@@ -35,7 +35,7 @@ use Rattle.memory.specs.declared.state.State.{State}
 use Rattle.memory.specs.Codes.{isExpected, noCodes}
 use Rattle.memory.specs.Parent.{main, outer, inner}
 use Rattle.memory.specs.State.{foundOne, channelBy}
-use Rattle.listing.specs.Right.{isKind, isBank, isLayer, isChannel, isSelection, isAlphaBank, isAlpha, parentOf, isMember, membersIn, codesIn, depthOf, announcedIn, faultIn, channelsIn, savedIn, Awaited, Full, FullAs}
+use Rattle.listing.specs.Right.{isBank, isLayer, isChannel, isSelection, isAlphaBank, isAlpha, parentOf, isMember, membersIn, codesIn, depthOf, announcedIn, faultIn, channelsIn, savedIn, Awaited, Full, FullAs}
 use Rattle.listing.proofs.CodesRemembered.{CameIn, came-in-none, came-in-more}
 
 -- ### Lists

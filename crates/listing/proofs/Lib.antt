@@ -5,6 +5,7 @@ pub mod WalkOutcome
 pub mod Numbers
 pub mod Tiled
 pub mod Prefix
+pub mod Blind
 pub mod OneOutcome
 pub mod CodesRemembered
 pub mod Holding

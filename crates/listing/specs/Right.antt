@@ -2,7 +2,7 @@
 -- document 02, requests i and vii).
 use Prim.Native.Nat.{ℕ, suc, _+_, _*_, _≤_, _<_, _^_}
 use mathlib.Core.Path.{_≡_}
-use mathlib.Core.Bool.{Bool, true, false, _&&_, cond}
+use mathlib.Core.Bool.{Bool, true, false, cond}
 use mathlib.Core.List.{List, [], _∷_, map, List·Memᴰ}
 use lib.Dec.{eqb, ltb}
 use lib.ListN.{length, drop, getD}
@@ -17,7 +17,7 @@ use Rattle.rect.specs.declared.planes.Shape.{Shape}
 use Rattle.rect.specs.Rows.{sidesOf, shapeOf, Taken}
 use Rattle.entry.specs.declared.Code.{Code}
 use Rattle.entry.specs.declared.Entry.{Entry}
-use Rattle.entry.specs.Entry.{block, code, content, plain, ranked, filled}
+use Rattle.entry.specs.Entry.{block, code, content, plain, ranked, filled, isKind}
 use Rattle.walk.specs.Parents.{holds, holder, rank, held, Of}
 use Rattle.headers.specs.BlockHeader.{blockHeaderSize, blockHeaderAt}
 use Rattle.headers.specs.Places.{imagePlace, imageChunkPlace}
@@ -42,9 +42,6 @@ use Rattle.memory.specs.declared.parent.Parent.the-variants.{Main, Bank, Layer,
 use Rattle.memory.specs.Codes.{isExpected}
 
 -- ### Of entries
-
-abbrev pub isKind : ℕ → Entry → Bool
-isKind id e = eqb (e .block .skipped) 0 && eqb (e .block .id) id
 
 abbrev pub isPalette : Entry → Bool
 isPalette = isKind 2

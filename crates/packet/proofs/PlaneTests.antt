@@ -1,5 +1,5 @@
 -- The plane reader's answers, each by the tests that lead to it.
-use mathlib.Core.Path.{_≡_, sym, ap, _∙_}
+use mathlib.Core.Path.{_≡_, refl, sym, ap, _∙_}
 use mathlib.Core.List.{List, [], _++_, append-nil}
 use Prim.Native.Nat.{ℕ, _+_, _-_, _<_, _≤_}
 use borrow.Author.Tests.{lt-ltb, le-ltb, eq-eqb, ne-eqb}
@@ -106,3 +106,10 @@ plane-longer s t start stored plane code dest there =
     ∙ ap rest (part-longer s t start stored there)
     ∙ sym (pick-no _ _ _ (le-ltb (length s) (start + stored) there)) in
     ap (λ (r : Result Plane). pick (ltb 1 code) (untouched 24 dest) (pick (ltb planeLimit plane) (untouched 26 dest) r)) same
+
+-- the stored part and the input's length are all that counts of an input
+pub plane-alike :
+    (s s' : List ℕ) (start stored plane code : ℕ) (dest : List ℕ) → length s ≡ length s' → part s start stored ≡ part s' start stored
+    → planeRead s start stored plane code dest ≡ planeRead s' start stored plane code dest
+unfolding planeRead
+plane-alike s s' start stored plane code dest same alike = rw (same, alike) refl

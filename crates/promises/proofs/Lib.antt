@@ -5,3 +5,4 @@ pub mod MoreInput
 pub mod WhichField
 pub mod Masks
 pub mod EveryTable
+pub mod Spoiled

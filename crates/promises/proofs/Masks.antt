@@ -11,11 +11,11 @@ use Rattle.laws.proofs.Filter.{filter-at}
 use Rattle.answer.specs.declared.Answer.the-variants as answers
 use Rattle.entry.specs.declared.Code.{Code}
 use Rattle.entry.specs.declared.Entry.{Entry}
-use Rattle.entry.specs.Entry.{block, plain}
+use Rattle.entry.specs.Entry.{block, plain, isKind}
 use Rattle.chunk.proofs.Rules.{mask-rules}
 use Rattle.memory.specs.declared.parent.Parent.{Parent}
 use Rattle.listing.specs.Listing.{listed}
-use Rattle.listing.specs.Right.{isKind, isAlpha, parentOf, FullAs}
+use Rattle.listing.specs.Right.{isAlpha, parentOf, FullAs}
 use Rattle.listing.proofs.Holding.{kind-parent}
 use Rattle.listing.proofs.RightEntries.{alphas-numbered, accepted-complete}
 use Rattle.promises.specs.Masks.{AlphaRanks, heldBy, MasksWhole}

@@ -13,14 +13,14 @@ use Rattle.laws.proofs.Tests.{other-not}
 use Rattle.answer.specs.Answers.{isAccepted}
 use Rattle.answer.proofs.Names.{accepted-is}
 use Rattle.entry.specs.declared.Entry.{Entry}
-use Rattle.entry.specs.Entry.{nowhere}
+use Rattle.entry.specs.Entry.{nowhere, isKind}
 use Rattle.attributes.specs.Depth.{isDepth}
 use Rattle.attributes.specs.ImageAttributes.{isPaletted}
 use Rattle.attributes.proofs.Rules.{four, image-rules}
 use Rattle.listing.specs.declared.question.Question.{Question}
 use Rattle.listing.specs.Question.{question, isAsked, foundIn}
 use Rattle.listing.specs.Listing.{listed}
-use Rattle.listing.specs.Right.{isKind, imageIn, depthOf, ImageRight, PaletteRight, LayerRight, Right}
+use Rattle.listing.specs.Right.{imageIn, depthOf, ImageRight, PaletteRight, LayerRight, Right}
 use Rattle.listing.proofs.RightEntries.{each-right, accepted-complete}
 use Rattle.chunk.specs.LayerInformation.{layerSize}
 use Rattle.view.specs.declared.sought.Sought.the-variants.{At}

@@ -15,3 +15,4 @@ pub mod Parents
 pub mod Prefix
 pub mod Agree
 pub mod Unit
+pub mod Blind

@@ -4,14 +4,15 @@ use mathlib.Core.List.{List, _++_}
 use Prim.Native.Nat.{ℕ, _+_, _≤_, _<_}
 use native.Mathlib.Omega.{arith}
 use borrow.Author.Tests.{lt-ltb, le-ltb, ltb-true, ltb-false}
-use lib.ListN.{length, length-append}
+use lib.ListN.{length, drop, length-append}
 use Rattle.laws.specs.Lists.{part}
-use Rattle.laws.proofs.Part.{part-longer}
+use Rattle.laws.proofs.Part.{part-longer, part-alike}
 use Rattle.laws.proofs.Choice.{pick-yes, pick-no, pick-ind}
 use Rattle.answer.specs.declared.Refusal.the-variants.{EndsTooSoon}
-use Rattle.walk.specs.Walk.{Step, Stop}
+use Rattle.entry.specs.declared.Entry.{Entry}
+use Rattle.walk.specs.Walk.{Step, End, Stop, Leaf, Nest}
 use Rattle.walk.specs.Unit.{unit}
-use Rattle.walk.specs.Owed.{soon, Beyond, refused, Waits, waits}
+use Rattle.walk.specs.Owed.{soon, Beyond, refused, leaf-past, nest-past, Waits, waits, Reads, Shares}
 
 -- ### A unit's answer
 
@@ -60,3 +61,41 @@ module _ {S : Type 0} where
         unit-waits-to (unit (s ++ t) at n judge')
         (λ short. unit-ind (Beyond (length s) main levels) (s ++ t) at n judge' (λ _. refused) (λ _. past short (part (s ++ t) at n)))
         rule (λ _. refl)
+
+  -- ### On another input of that length
+
+  module _ (hidden : Entry → ℕ → Type 0) where
+    -- an entry that is read at a byte reaches behind it
+    pub reads-past : (main levels i : ℕ) (k : Step S) → Reads hidden i k → Beyond i main levels k
+    reads-past main levels i End r = absurd r
+    reads-past main levels i (Stop _ _) r = refused
+    reads-past main levels i (Leaf e next q) r = leaf-past (r .0)
+    reads-past main levels i (Nest e inside q after) r = nest-past (r .0)
+
+    module _ (s s' : List ℕ) (same : length s ≡ length s') (at : ℕ) where
+      -- a step on each of both: the same, if they share what it reads
+      abbrev pub Depends : Step S → Step S → Type 0
+      Depends k k' = Shares hidden s s' at k → k ≡ k'
+
+      -- a unit that is judged by its bytes from the m-th on
+      pub unit-depends-from :
+          (m place n : ℕ) (judge judge' : List ℕ → Step S) → at ≤ place → ((xs : List ℕ) (i : ℕ) → place + m ≤ i → i < place + n → Reads hidden i (judge xs))
+          → ((xs ys : List ℕ) → drop m xs ≡ drop m ys → Depends (judge xs) (judge' ys)) → Depends (unit s place n judge) (unit s' place n judge')
+      unit-depends-from m place n judge judge' low reads rule =
+          unit-ind (λ (k : Step S). Depends k (unit s' place n judge')) s place n judge (λ short _. sym (unit-soon s' place n judge' (omega arith))) (λ there shares.
+          rule (part s place n) (part s' place n) (part-alike s s' place n m 0 same (λ i from to. shares i (omega arith) (reads (part s place n) i from to))) shares
+          ∙ sym (unit-there s' place n judge' (omega arith)))
+
+      -- by all of them
+      pub unit-depends :
+          (place n : ℕ) (judge judge' : List ℕ → Step S) → at ≤ place → ((xs : List ℕ) (i : ℕ) → place ≤ i → i < place + n → Reads hidden i (judge xs))
+          → ((xs : List ℕ) → Depends (judge xs) (judge' xs)) → Depends (unit s place n judge) (unit s' place n judge')
+      unit-depends place n judge judge' low reads rule =
+          unit-depends-from 0 place n judge judge' low (λ xs i from to. reads xs i (omega arith) to)
+          (λ xs ys alike. subst (λ (zs : List ℕ). Depends (judge xs) (judge' zs)) alike (rule xs))
+
+  -- a unit that only has to be there
+  pub unit-unread :
+      (s s' : List ℕ) → length s ≡ length s' → (place n : ℕ) (k k' : Step S) → k ≡ k' → unit s place n (λ _. k) ≡ unit s' place n (λ _. k')
+  unfolding unit
+  unit-unread s s' same place n k k' is = rw (same, is) refl

@@ -2,7 +2,7 @@
 use mathlib.Core.Path.{_≡_}
 use mathlib.Core.List.{List, _++_}
 use Prim.Native.Nat.{ℕ, _+_, _≤_, _<_}
-use lib.ListN.{length}
+use lib.ListN.{length, getD}
 use Rattle.answer.specs.declared.Refusal.{Refusal}
 use Rattle.answer.specs.declared.Refusal.the-variants.{EndsTooSoon}
 use Rattle.entry.specs.declared.Entry.{Entry}
@@ -84,3 +84,25 @@ WaitsOn {S} main len look look' =
 
 pub record Prompt {S : Type 0} (main : ℕ) (look : List ℕ → Look S) : Type 0 where
   pub waiting : (s t : List ℕ) → WaitsOn main (length s) (look s) (look (s ++ t))
+
+-- ### And what a step reads
+
+-- Only what two inputs of one length have in common asks for it. `hidden e i` says that no rule looks at byte i of entry e.
+
+-- byte i may have a say in a step: where the step refuses, any; where it finds an entry, one that neither lies behind the entry nor is
+-- hidden in it; at an end, none
+abbrev pub Reads : {S : Type 0} → (Entry → ℕ → Type 0) → ℕ → Step S → Type 0
+Reads hidden i End = ⊥
+Reads hidden i (Stop r p) = Unit
+Reads hidden i (Leaf e next q) = (i < next) × (hidden e i → ⊥)
+Reads hidden i (Nest e inside q after) = (i < inside) × (hidden e i → ⊥)
+
+-- two inputs have the same bytes wherever a step reads them, from its place on
+abbrev pub Shares : {S : Type 0} → (Entry → ℕ → Type 0) → List ℕ → List ℕ → ℕ → Step S → Type 0
+Shares hidden s s' at k = (i : ℕ) → at ≤ i → Reads hidden i k → getD s i 0 ≡ getD s' i 0
+
+-- the step is the same on every other input of that length that shares these bytes
+pub record Blind {S : Type 0} (hidden : Entry → ℕ → Type 0) (look : List ℕ → Look S) : Type 0 where
+  pub reads :
+      (s s' : List ℕ) → length s ≡ length s' → (st : S) (at end levels : ℕ) → Shares hidden s s' at (look s st at end levels)
+      → look s st at end levels ≡ look s' st at end levels

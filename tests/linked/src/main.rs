@@ -70,7 +70,7 @@ fn all(seed: u64, count: u64) -> io::Result<bool> {
     result?;
     longest_tables(&mut comparison)?;
     many::compare(&mut comparison)?;
-    cases::generate(seed, count, |case| compare(&mut comparison, case))?;
+    cases::generate(seed, count, |case, like| hold(&mut comparison, case, like))?;
     let same = comparison.finish(&[])?;
     Ok(clips() && same)
 }
@@ -106,8 +106,13 @@ fn clips() -> bool {
 }
 
 fn compare(comparison: &mut Comparison, case: &Case) -> io::Result<()> {
+    hold(comparison, case, case)
+}
+
+/// Holds a case to the answer of one that must have the same.
+fn hold(comparison: &mut Comparison, case: &Case, like: &Case) -> io::Result<()> {
     let got = answer(&Linked, case);
-    comparison.hold(case.kind(), &answer(&Reference, case), &got.line)?;
+    comparison.hold(case.kind(), &answer(&Reference, like), &got.line)?;
     if let Case::Listing { room, input } = case {
         listed_otherwise(comparison, *room as usize, input)?;
     }

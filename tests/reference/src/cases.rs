@@ -21,6 +21,7 @@ mod products;
 mod rectangles;
 pub mod rows;
 pub mod saved;
+pub mod spoiled;
 mod streams;
 pub mod sweeps;
 mod values;
@@ -68,11 +69,12 @@ pub fn systematic() -> Vec<Case> {
     cases
 }
 
-/// Makes the cases one after another.
+/// Makes the cases one after another, each with the case whose answer it must
+/// have: itself, or that of a file before it was overwritten.
 pub fn generate(
     seed: u64,
     count: u64,
-    mut give: impl FnMut(&Case) -> io::Result<()>,
+    mut give: impl FnMut(&Case, &Case) -> io::Result<()>,
 ) -> io::Result<()> {
     let mut random = Random::new(seed);
     let mut systematic = systematic();
@@ -80,9 +82,13 @@ pub fn generate(
     for index in 0..count {
         if index % SYSTEMATIC_EVERY == 0 {
             let turn = (index / SYSTEMATIC_EVERY) as usize % systematic.len();
-            give(&systematic[turn])?;
+            give(&systematic[turn], &systematic[turn])?;
+        } else if random.one_in(11) {
+            let (case, before) = spoiled::any(&mut random);
+            give(&case, &before)?;
         } else {
-            give(&any(&mut random))?;
+            let case = any(&mut random);
+            give(&case, &case)?;
         }
     }
     Ok(())

@@ -89,7 +89,7 @@ fn output() -> BufWriter<io::Stdout> {
 fn write_cases(seed: u64, first: u64, count: u64) -> io::Result<bool> {
     let mut output = output();
     let mut made = 0;
-    cases::generate(seed, first.saturating_add(count), |case| {
+    cases::generate(seed, first.saturating_add(count), |case, _| {
         made += 1;
         if made <= first {
             return Ok(());
@@ -124,7 +124,7 @@ fn compare(seed: u64, count: u64) -> io::Result<bool> {
     let mut report = io::stdout();
     let mut comparison = Comparison::new(&mut report);
     let mut answers = BufReader::with_capacity(1 << 20, io::stdin());
-    cases::generate(seed, count, |case| comparison.read(case, &mut answers))?;
+    cases::generate(seed, count, |_, like| comparison.read(like, &mut answers))?;
     comparison.end(&mut answers)?;
     comparison.finish(&LONGER_THAN_A_CASE)
 }

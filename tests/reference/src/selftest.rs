@@ -10,6 +10,7 @@ mod named;
 mod pencil;
 mod planes;
 mod saved;
+mod spoiled;
 mod views;
 mod worked;
 
@@ -33,6 +34,7 @@ pub fn report() -> bool {
     forms::all(&mut checks);
     views::all(&mut checks);
     alphas::all(&mut checks);
+    spoiled::all(&mut checks);
     let compared = cases::systematic();
     named::all(&mut checks, &compared);
     saved::all(&mut checks, &compared);

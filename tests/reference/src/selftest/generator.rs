@@ -48,7 +48,7 @@ fn edges(checks: &mut Checks) {
 
 fn made() -> Vec<Case> {
     let mut all = Vec::new();
-    let _ = cases::generate(7, 3_000, |case| {
+    let _ = cases::generate(7, 3_000, |case, _| {
         all.push(case.clone());
         Ok(())
     });

@@ -1,0 +1,2 @@
+-- Laws about layers and channels.
+pub mod Read

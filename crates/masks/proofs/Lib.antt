@@ -1,0 +1,2 @@
+-- Laws about selections and alpha channels.
+pub mod Read
