@@ -91,7 +91,7 @@ module _ (s s' : List ℕ) (same : length s ≡ length s') (st : State) (at leve
   counted-alike : (total n : ℕ) → paletteCounted s st total at level n ≡ paletteCounted s' st total at level n
   unfolding paletteCounted
   counted-alike total n =
-      ap (λ k. pick (eqb total (paletteSize + 4 * n)) k (Stop WrongLength at)) (unit-unread s s' same (at + paletteHead) (4 * n) _ _ refl)
+      ap (λ k. pick (eqb total (paletteSize + 4 * n)) k (Stop WrongLength at)) (unit-unread s s' same (at + paletteHead) (4 * n) _)
 
   pub palette-depends : (total : ℕ) → D (paletteBlock s st total at level) (paletteBlock s' st total at level)
   unfolding paletteBlock
@@ -102,7 +102,7 @@ module _ (s s' : List ℕ) (same : length s ≡ length s') (st : State) (at leve
 
   pub skip-alike : (id total : ℕ) → skipBlock s st id total at level ≡ skipBlock s' st id total at level
   unfolding skipBlock
-  skip-alike id total = unit-unread s s' same (at + blockHeaderSize) total _ _ refl
+  skip-alike id total = unit-unread s s' same (at + blockHeaderSize) total _
 
   -- the first m bytes of the chunk have no say in what is taken from it
   pub nest-depends :

@@ -78,7 +78,7 @@ module _ (s s' : List ℕ) (same : length s ≡ length s') (st : State) (at leve
   sized-alike : (c : ChannelChunk) (shape : Shape) → channelSized s st at level c shape ≡ channelSized s' st at level c shape
   unfolding channelSized
   sized-alike c shape =
-      ap (permitted (planeFault shape c) (at + blockHeaderSize)) (unit-unread s s' same (at + channelHead) (c .stored) _ _ refl)
+      ap (permitted (planeFault shape c) (at + blockHeaderSize)) (unit-unread s s' same (at + channelHead) (c .stored) _)
 
   judged-alike :
       (parent : Parent) (total : ℕ) (c : ChannelChunk) → channelJudged s st parent total at level c ≡ channelJudged s' st parent total at level c

@@ -1,15 +1,15 @@
 -- Two inputs of one length that differ only in bytes that no step reads, of entries that are listed, have the same listing.
-use mathlib.Core.Path.{_≡_, sym, ap, _∙_}
+use mathlib.Core.Path.{_≡_, sym, ap, subst, _∙_}
 use mathlib.Core.Bool.{true, false}
 use mathlib.Core.List.{List, []}
 use Prim.Native.Nat.{ℕ}
 use native.Mathlib.Omega.{arith}
-use lib.Seq.{ext-getD}
-use Rattle.laws.proofs.Part.{part-alike}
-use Rattle.laws.proofs.Tests.{yes-or-no, not-other}
+use Rattle.laws.specs.Differ.{DifferIn}
+use Rattle.laws.proofs.Differ.{part-same, all-same}
+use Rattle.laws.proofs.Tests.{yes-or-no}
 use Rattle.answer.specs.declared.Outcome.{Outcome}
 use Rattle.answer.specs.Answers.{isAccepted}
-use Rattle.walk.specs.Promised.{none, Hides, Differ}
+use Rattle.walk.specs.Promised.{none, Hides}
 use Rattle.walk.proofs.Blind.{hides-within, blind-cut}
 use Rattle.headers.specs.FileHeader.{fileHeaderSize}
 use Rattle.memory.specs.Parent.{main}
@@ -25,19 +25,17 @@ use Rattle.listing.proofs.Tiled.{found-before}
 nothing-hidden : {i : ℕ} → Hides Unread i [] → ⊥
 nothing-hidden h = omega (arith, hides-within {a = 0} {b = 0} none h .1)
 
-module _ (s s' : List ℕ) (room : ℕ) (differ : Differ Unread (listed s room .entries) s s') where
+module _ (s s' : List ℕ) (room : ℕ) (differ : DifferIn (λ i. Hides Unread i (listed s room .entries)) s s') where
   -- behind a header that is refused nothing is listed, so that nothing differs
   behind-bad : isAccepted (headOf s .answer) ≡ false → listed s room ≡ listed s' room
   behind-bad bad =
-      ap (λ (t : List ℕ). listed t room)
-      (ext-getD 0 s s' (differ .long) (λ i _. not-other _ _ (λ other. nothing-hidden (rw (refused-empty s room bad) at (differ .only i other)))))
+      ap (λ (t : List ℕ). listed t room) (all-same differ (λ i h. nothing-hidden (subst (Hides Unread i) (refused-empty s room bad) h)))
 
   -- one that passes lies before all entries, and passes in both
   behind-good : isAccepted (headOf s .answer) ≡ true → listed s room ≡ listed s' room
   behind-good good =
       let same : headOf s ≡ headOf s' =
-      head-alike s s' (differ .long) (part-alike s s' 0 fileHeaderSize 0 0 (differ .long) (λ i low high.
-      not-other _ _ (λ other. omega (arith, hides-within (found-before s room good .tiles) (differ .only i other) .0)))) in
+      head-alike s s' (differ .long) (part-same differ 0 fileHeaderSize (λ i low high h. omega (arith, hides-within (found-before s room good .tiles) h .0))) in
       let is = behind-head s good in
       let is' = behind-head s' (sym (ap (λ (h : Outcome). isAccepted (h .answer)) same) ∙ good) in
       rw (is, is')

@@ -9,7 +9,6 @@ use native.Mathlib.Omega.{arith}
 use borrow.Author.Tests.{eqb-true}
 use lib.Dec.{eqb}
 use lib.ListN.{length, length-append}
-use Rattle.laws.specs.Choice.{pick}
 use Rattle.laws.specs.Lists.{filter}
 use Rattle.laws.specs.Along.{Along, along-end}
 use Rattle.laws.proofs.Choice.{pick-no}

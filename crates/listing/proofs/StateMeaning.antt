@@ -54,8 +54,8 @@ use Rattle.memory.proofs.Parents.{Held, held}
 use Rattle.kinds.specs.Blocks.{skippedBy}
 use Rattle.layers.specs.Layers.{channelEntry, isAwaited}
 use Rattle.block.specs.Step.{stepAt}
-use Rattle.block.proofs.Stepped.{IsPalette, IsSkip, IsChannel, an-image, a-palette, a-channel, a-skip, a-bank, a-layer, a-selection, an-alpha-bank, an-alpha, Stepped, accepted, ended, leafed, nested, stepped}
-use Rattle.listing.specs.Right.{isPalette, isBank, isLayer, isChannel, isSelection, isAlphaBank, isAlpha, parentOf, isMember, membersIn, layersIn, codesIn, imageIn, depthOf, layerFrom, selectionFrom, alphaBankFrom, alphaFrom, announcedIn, faultIn, channelsIn, savedIn, Awaited, Completed, Full, FullAs, ImageRight, OnlyRight, MemberRight, SkipRight, shapeIn, RightAs, Right}
+use Rattle.block.proofs.Stepped.{IsPalette, IsSkip, an-image, a-palette, a-channel, a-skip, a-bank, a-layer, a-selection, an-alpha-bank, an-alpha, Stepped, accepted, ended, leafed, nested, stepped}
+use Rattle.listing.specs.Right.{isPalette, isBank, isLayer, isChannel, isSelection, isAlphaBank, isAlpha, parentOf, isMember, membersIn, layersIn, codesIn, imageIn, depthOf, layerFrom, selectionFrom, alphaBankFrom, alphaFrom, faultIn, channelsIn, savedIn, Awaited, Completed, Full, FullAs, ImageRight, OnlyRight, MemberRight, SkipRight, shapeIn, RightAs, Right}
 use Rattle.listing.proofs.CodesRemembered.{came-in-once, came-in-all, expected-ind}
 use Rattle.listing.proofs.Holding.{one-more, as-many, Holdless, no-member, nothing-held, isMet, InBank, InHost, Inside, at-main, in-bank, in-selection, in-member, new-bank, bank-member, still-in-bank, new-host, still-in-host, host-channel, hasMembers}
 

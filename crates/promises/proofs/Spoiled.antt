@@ -9,20 +9,20 @@ use native.Mathlib.Omega.{arith}
 use borrow.Author.Tests.{eqb-true}
 use lib.Dec.{eqb}
 use lib.ListN.{length, getD}
-use Rattle.laws.specs.Lists.{part}
-use Rattle.laws.proofs.Part.{part-alike}
+use Rattle.laws.specs.Differ.{DifferIn}
+use Rattle.laws.proofs.Differ.{part-same}
 use Rattle.laws.proofs.Tests.{never, both, either, not-other, less-or-not}
 use Rattle.entry.specs.declared.Entry.{Entry}
 use Rattle.entry.specs.Entry.{block, plain, size, nowhere, isKind}
 use Rattle.walk.specs.Room.{Listed}
-use Rattle.walk.specs.Promised.{Differ}
+use Rattle.walk.specs.Promised.{Hides}
 use Rattle.walk.proofs.Blind.{hides-at}
 use Rattle.headers.specs.BlockHeader.{blockHeaderSize}
 use Rattle.headers.specs.Places.{imagePlace, imageChunkPlace}
 use Rattle.attributes.specs.declared.image_attributes.ImageChunk.{ImageChunk}
 use Rattle.attributes.specs.ImageAttributes.{imageSize, imageOf}
 use Rattle.chunk.specs.Heads.{imageHead, layerHead, alphaHead}
-use Rattle.kinds.specs.Unread.{InContent, InName, nameSize, isNamed, Unread, stored, named}
+use Rattle.kinds.specs.Unread.{InName, nameSize, isNamed, Unread, stored, named}
 use Rattle.packet.specs.Reading.{planeRead}
 use Rattle.packet.proofs.PlaneTests.{plane-alike}
 use Rattle.listing.specs.Listing.{told, tabled, listed, lists}
@@ -30,7 +30,7 @@ use Rattle.listing.specs.Right.{isChannel, imageIn}
 use Rattle.listing.proofs.Blind.{same-listing}
 use Rattle.listing.proofs.RightEntries.{each-right}
 use Rattle.promises.specs.MoreInput.{planeOf}
-use Rattle.promises.specs.Spoiled.{InChannel, InSkipped, Silent, in-channel, in-skipped, in-colours, in-name, DifferIn, Same}
+use Rattle.promises.specs.Spoiled.{InChannel, InSkipped, Silent, in-channel, in-skipped, in-colours, in-name, Chosen, Same}
 use Rattle.promises.proofs.TableAndPlanes.{in-order}
 
 -- no step reads it
@@ -86,8 +86,8 @@ module _ (s s' : List ℕ) (room : ℕ) where
       (λ is. by alphaHead (omega arith) (ap (λ (e : Entry). e .block .owned) (r .kind 8 is .is)))
 
   -- no byte has two owners
-  one-owner : (j k i : ℕ) → Own j i → Own k i → j ≡ k
-  one-owner j k i a b =
+  same-owner : (j k i : ℕ) → Own j i → Own k i → j ≡ k
+  same-owner j k i a b =
       let order = in-order s room .file-order in
       not-other j k (λ other. ⊎-elim
       (λ lt. omega (arith, order j k nowhere lt (b .there), a .high, b .low))
@@ -95,8 +95,8 @@ module _ (s s' : List ℕ) (room : ℕ) where
 
   -- ### Any choice among the listed entries
 
-  module _ (chosen : ℕ → Type 0) (differ : DifferIn Silent chosen es s s') where
-    hidden : Differ Unread es s s'
+  module _ (chosen : ℕ → Type 0) (differ : DifferIn (Chosen Silent chosen es) s s') where
+    hidden : DifferIn (λ i. Hides Unread i es) s s'
     hidden = record {
       long = differ .long;
       only = λ i other.
@@ -108,34 +108,30 @@ module _ (s s' : List ℕ) (room : ℕ) where
     listing-same : listed s' room ≡ listed s room
     listing-same = sym (same-listing s s' room hidden)
 
-    -- a byte of a listed entry that is not chosen, or that lies in no such part of it
-    byte-same : (k i : ℕ) → Own k i → (chosen k → Silent (entry k) i → ⊥) → getD s i 0 ≡ getD s' i 0
-    byte-same k i o clear =
-        not-other _ _ (λ other.
-        let c = differ .only i other in
-        let is = one-owner (c .position) k i (own (c .position) i (c .there) (c .inside)) o in
-        clear (subst chosen is (c .is)) (subst (λ (j : ℕ). Silent (entry j) i) is (c .inside)))
+    -- a byte of a listed entry that is not chosen, or that lies in no such part of it, is the same
+    elsewhere : (k i : ℕ) → Own k i → (chosen k → Silent (entry k) i → ⊥) → Chosen Silent chosen es i → ⊥
+    elsewhere k i o clear c =
+        let is = same-owner (c .position) k i (own (c .position) i (c .there) (c .inside)) o in
+        clear (subst chosen is (c .is)) (subst (λ (j : ℕ). Silent (entry j) i) is (c .inside))
 
     image-same : 0 < length es → imageIn s ≡ imageIn s'
     image-same some =
         let first = each-right s room 0 nowhere some .first refl in
         let place = ap (λ (e : Entry). e .block .place) first in
         let owned = ap (λ (e : Entry). e .block .owned) first in
-        ap imageOf (part-alike s s' imageChunkPlace imageSize 0 0 (differ .long) (λ i low high.
-        byte-same 0 i (record { there = some; low = omega arith; high = omega arith }) (λ _. image-silent first)))
+        ap imageOf (part-same differ imageChunkPlace imageSize (λ i low high.
+        elsewhere 0 i (record { there = some; low = omega arith; high = omega arith }) (λ _. image-silent first)))
 
     plane-same :
         (k : ℕ) → k < length es → isChannel (entry k) ≡ true → (chosen k → ⊥) → (dest : List ℕ)
         → planeOf s' (getD (listed s' room .entries) k nowhere) dest ≡ planeOf s (entry k) dest
     plane-same k some channel sound dest =
         let e = entry k in
-        let content : part s' (e .content .start) (e .content .stored) ≡ part s (e .content .start) (e .content .stored) =
-        sym (part-alike s s' (e .content .start) (e .content .stored) 0 0 (differ .long) (λ i low high.
-        let c : InContent e i = record { low = omega arith; high = high } in
-        byte-same k i (own k i some (in-channel (channel, c))) (λ z _. sound z))) in
+        let content = part-same differ (e .content .start) (e .content .stored) (λ i low high.
+        elsewhere k i (own k i some (in-channel (channel, record { low = low; high = high }))) (λ z _. sound z)) in
         ap (λ (r : Listed). planeOf s' (getD (r .entries) k nowhere) dest) listing-same
         ∙ ap (λ (c : ImageChunk). planeRead s' (e .content .start) (e .content .stored) (e .size .plane) (c .compression) dest) (sym (image-same (omega arith)))
-        ∙ plane-alike s' s (e .content .start) (e .content .stored) (e .size .plane) (imageIn s .compression) dest (sym (differ .long)) content
+        ∙ sym (plane-alike s s' (e .content .start) (e .content .stored) (e .size .plane) (imageIn s .compression) dest (differ .long) content)
 
     tables-same : (table : List ℕ) → length table / size ≡ room → lists s' table ≡ lists s table
     unfolding lists
@@ -149,7 +145,7 @@ module _ (s s' : List ℕ) (room : ℕ) where
 
   narrowed :
       {part : Entry → ℕ → Type 0} {chosen chosen' : ℕ → Type 0} → ((k i : ℕ) → chosen k → part (entry k) i → chosen' k × Silent (entry k) i)
-      → DifferIn part chosen es s s' → DifferIn Silent chosen' es s s'
+      → DifferIn (Chosen part chosen es) s s' → DifferIn (Chosen Silent chosen' es) s s'
   narrowed case differ = record {
     long = differ .long;
     only = λ i other.
@@ -159,22 +155,22 @@ module _ (s s' : List ℕ) (room : ℕ) where
   }
 
   -- channels that are spoiled, however many
-  pub spoiled-channels : (chosen : ℕ → Type 0) → DifferIn InChannel chosen es s s' → Same (λ k. chosen k → ⊥) s s' room
+  pub spoiled-channels : (chosen : ℕ → Type 0) → DifferIn (Chosen InChannel chosen es) s s' → Same (λ k. chosen k → ⊥) s s' room
   spoiled-channels chosen differ = silent-parts chosen (narrowed (λ k i is h. (is, in-channel h)) differ)
 
   -- one of them
-  pub one-spoiled-channel : (j : ℕ) → DifferIn InChannel (λ k. k ≡ j) es s s' → Same (λ k. k ≡ j → ⊥) s s' room
+  pub one-spoiled-channel : (j : ℕ) → DifferIn (Chosen InChannel (λ k. k ≡ j) es) s s' → Same (λ k. k ≡ j → ⊥) s s' room
   one-spoiled-channel j = spoiled-channels (λ k. k ≡ j)
 
   -- where no channel is chosen, every plane reads the same
   every-plane :
-      (chosen : ℕ → Type 0) → ((k : ℕ) → isChannel (entry k) ≡ true → chosen k → ⊥) → DifferIn Silent chosen es s s' → Same (λ _. Unit) s s' room
+      (chosen : ℕ → Type 0) → ((k : ℕ) → isChannel (entry k) ≡ true → chosen k → ⊥) → DifferIn (Chosen Silent chosen es) s s' → Same (λ _. Unit) s s' room
   every-plane chosen none differ =
       let all = silent-parts chosen differ in
       record { listing = all .listing; tables = all .tables; planes = λ k some channel _. all .planes k some channel (none k channel) }
 
   -- names, of layers and of alpha channels
-  pub names-never-decide : (chosen : ℕ → Type 0) → DifferIn InName chosen es s s' → Same (λ _. Unit) s s' room
+  pub names-never-decide : (chosen : ℕ → Type 0) → DifferIn (Chosen InName chosen es) s s' → Same (λ _. Unit) s s' room
   names-never-decide chosen differ =
       every-plane (λ k. isNamed (entry k) ≡ true) channel-nameless (narrowed (λ k i _ h. (h .kind, in-name h)) differ)
     where
@@ -187,7 +183,7 @@ module _ (s s' : List ℕ) (room : ℕ) where
           (λ is. omega (arith, five, eqb-true (e .id) 8 (both (eqb (e .skipped) 0) (eqb (e .id) 8) is .1)))
 
   -- what skipped blocks hold
-  pub skipped-never-decides : (chosen : ℕ → Type 0) → DifferIn InSkipped chosen es s s' → Same (λ _. Unit) s s' room
+  pub skipped-never-decides : (chosen : ℕ → Type 0) → DifferIn (Chosen InSkipped chosen es) s s' → Same (λ _. Unit) s s' room
   skipped-never-decides chosen differ =
       every-plane (λ k. entry k .block .skipped ≡ 1) channel-entered (narrowed (λ k i _ h. (h .0, in-skipped h)) differ)
     where

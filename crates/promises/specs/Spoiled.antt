@@ -33,19 +33,15 @@ pub data Silent (e : Entry) (i : ℕ) : Type 0 where
   in-colours : InColours e i → Silent e i
   in-name : InName e i → Silent e i
 
--- ### Two inputs that differ only there
+-- ### Where two inputs differ
 
--- byte i lies in such a part of an entry that is listed, at a position that is chosen
+-- byte i lies in such a part of an entry that is listed, at a position that is chosen. That two inputs of one length differ only there is
+-- `DifferIn (Chosen part chosen es)` (laws/specs/Differ)
 pub record Chosen (part : Entry → ℕ → Type 0) (chosen : ℕ → Type 0) (es : List Entry) (i : ℕ) : Type 0 where
   pub position : ℕ
   pub there : position < length es
   pub is : chosen position
   pub inside : part (getD es position nowhere) i
-
--- two inputs of one length; each byte that is not the same in both lies there
-pub record DifferIn (part : Entry → ℕ → Type 0) (chosen : ℕ → Type 0) (es : List Entry) (s s' : List ℕ) : Type 0 where
-  pub long : length s ≡ length s'
-  pub only : (i : ℕ) → (getD s i 0 ≡ getD s' i 0 → ⊥) → Chosen part chosen es i
 
 -- ### What is the same
 

@@ -6,12 +6,14 @@ use mathlib.Core.List.{List, [], _∷_, _++_}
 use Prim.Native.Nat.{ℕ, zero, suc, _+_, _≤_, _<_}
 use native.Mathlib.Omega.{arith}
 use lib.ListN.{length, getD}
+use Rattle.laws.specs.Differ.{DifferIn}
+use Rattle.laws.proofs.Differ.{byte-same}
 use Rattle.laws.proofs.Tests.{not-other}
 use Rattle.entry.specs.declared.Entry.{Entry}
 use Rattle.walk.specs.Walk.{Step, Look, run}
 use Rattle.walk.specs.Room.{cut}
 use Rattle.walk.specs.Owed.{Owns, MovesOn, Shares, Blind}
-use Rattle.walk.specs.Promised.{Tiles, next, Hides, here, there, Differ}
+use Rattle.walk.specs.Promised.{Tiles, next, Hides, here, there}
 use Rattle.walk.specs.Course as course
 use Rattle.walk.specs.Course.{Stand, stand, seen, Course, Answered}
 use Rattle.walk.proofs.Course.{owns-of, opens-of, fits, owed}
@@ -84,13 +86,13 @@ module _
       course.leave (course-same c (λ i other to. so i other (omega arith))) inside (seen-same x is (λ i from r. absurd r))
 
   pub blind-cut :
-      (room : ℕ) → Differ hidden (cut room (run (look s) (length s) st at end top) .entries) s s'
+      (room : ℕ) → DifferIn (λ i. Hides hidden i (cut room (run (look s) (length s) st at end top) .entries)) s s'
       → cut room (run (look s) (length s) st at end top) ≡ cut room (run (look s') (length s') st at end top)
   blind-cut room differ =
       let x = cut-exact main (length s) (look s) (moves s) st at end top order low room in
       let r = cut room (run (look s) (length s) st at end top) in
       let last : seen (look s') top (x .last) ≡ seen (look s) top (x .last) =
-      seen-same (x .last) refl (λ i from _. not-other _ _ (λ other. omega (arith, hides-within (x .tiles) (differ .only i other) .1))) in
+      seen-same (x .last) refl (λ i from _. byte-same differ i (λ h. omega (arith, hides-within (x .tiles) h .1))) in
       exact-only main (length s') (look s') (moves s') st at end top order low room r (record {
         last = x .last;
         course = course-same (x .course) (λ i other _. differ .only i other);

@@ -96,6 +96,6 @@ module _ {S : Type 0} where
 
   -- a unit that only has to be there
   pub unit-unread :
-      (s s' : List ℕ) → length s ≡ length s' → (place n : ℕ) (k k' : Step S) → k ≡ k' → unit s place n (λ _. k) ≡ unit s' place n (λ _. k')
+      (s s' : List ℕ) → length s ≡ length s' → (place n : ℕ) (k : Step S) → unit s place n (λ _. k) ≡ unit s' place n (λ _. k)
   unfolding unit
-  unit-unread s s' same place n k k' is = rw (same, is) refl
+  unit-unread s s' same place n k = rw same refl

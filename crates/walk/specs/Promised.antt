@@ -2,7 +2,7 @@
 use mathlib.Core.Path.{_≡_}
 use mathlib.Core.List.{List, [], _∷_, _++_}
 use Prim.Native.Nat.{ℕ, suc, _+_, _≤_, _<_}
-use lib.ListN.{length, getD}
+use lib.ListN.{length}
 use Rattle.laws.specs.Front.{Front}
 use Rattle.answer.specs.declared.Refusal.the-variants.{EndsTooSoon}
 use Rattle.answer.specs.declared.Answer.the-variants.{Accepted, Refused, TableFull}
@@ -61,8 +61,3 @@ pub data Hides (hidden : Entry → ℕ → Type 0) (i : ℕ) : List Entry → Ty
   here :
       {e : Entry} {es : List Entry} → e .block .place ≤ i → i < e .block .place + e .block .owned → hidden e i → Hides hidden i (e ∷ es)
   there : {e : Entry} {es : List Entry} → Hides hidden i es → Hides hidden i (e ∷ es)
-
--- two inputs of one length differ only there
-pub record Differ (hidden : Entry → ℕ → Type 0) (es : List Entry) (s s' : List ℕ) : Type 0 where
-  pub long : length s ≡ length s'
-  pub only : (i : ℕ) → (getD s i 0 ≡ getD s' i 0 → ⊥) → Hides hidden i es
