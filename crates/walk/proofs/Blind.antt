@@ -3,7 +3,7 @@
 use mathlib.Core.Path.{_≡_, refl, sym, subst, _∙_}
 use mathlib.Core.Logic.{_⊎_, inl, inr, ⊎-elim}
 use mathlib.Core.List.{List, [], _∷_, _++_}
-use Prim.Native.Nat.{ℕ, zero, suc, _+_, _≤_, _<_}
+use Prim.Native.Nat.{ℕ, zero, suc, _+_, _-_, _≤_, _<_}
 use native.Mathlib.Omega.{arith}
 use lib.ListN.{length, getD}
 use Rattle.laws.specs.Differ.{DifferIn}
@@ -12,11 +12,11 @@ use Rattle.laws.proofs.Tests.{not-other}
 use Rattle.entry.specs.declared.Entry.{Entry}
 use Rattle.walk.specs.Walk.{Step, Look, run}
 use Rattle.walk.specs.Room.{cut}
-use Rattle.walk.specs.Owed.{Owns, MovesOn, Shares, Blind}
+use Rattle.walk.specs.Owed.{Owns, Moves, MovesOn, Shares, Blind}
 use Rattle.walk.specs.Promised.{Tiles, next, Hides, here, there}
 use Rattle.walk.specs.Course as course
 use Rattle.walk.specs.Course.{Stand, stand, seen, Course, Answered}
-use Rattle.walk.proofs.Course.{owns-of, opens-of, fits, owed}
+use Rattle.walk.proofs.Course.{owns-of, opens-of, Fits, fits, owed}
 use Rattle.walk.proofs.Tiling.{tiles-total, course-tiles}
 use Rattle.walk.proofs.Exact.{cut-exact, exact-only}
 
@@ -56,7 +56,15 @@ module _
   tiles : {es : List Entry} {x : Stand S} → On s es x → Tiles at es (x .at)
   tiles = course-tiles main (length s) (look s) (moves s) st at end top order low
 
-  -- each byte before a place that is another is hidden
+  stands : {es : List Entry} {x : Stand S} → On s es x → Fits main (length s) (look s) (moves s) top low st at end order x
+  stands = fits main (length s) (look s) (moves s) top low st at end order
+
+  owes :
+      {es : List Entry} {x : Stand S} {k : Step S} → On s es x → seen (look s) top x ≡ k
+      → Moves (length s) main (x .at) (x .end) (top - length (x .around)) k
+  owes c is = owed main (length s) (look s) (moves s) top low st at end order (stands c) is
+
+  -- each byte before p that is not the same in both is hidden in one of these entries
   abbrev Before : List Entry → ℕ → Type 0
   Before es p = (i : ℕ) → Other i → i < p → Hides hidden i es
 
@@ -76,13 +84,13 @@ module _
   course-same : {es : List Entry} {x : Stand S} → On s es x → Before es (x .at) → On s' es x
   course-same course.start so = course.start
   course-same (course.leaf {x} c is) so =
-      let o = owns-of (owed main (length s) (look s) (moves s) top low st at end order (fits main (length s) (look s) (moves s) top low st at end order c) is) in
+      let o = owns-of (owes c is) in
       course.leaf (course-same c (before c o so)) (seen-same x is (λ i from r. shared c o so i from (r .0) (r .1)))
   course-same (course.nest {x} c is) so =
-      let o = opens-of (owed main (length s) (look s) (moves s) top low st at end order (fits main (length s) (look s) (moves s) top low st at end order c) is) .owns in
+      let o = opens-of (owes c is) .owns in
       course.nest (course-same c (before c o so)) (seen-same x is (λ i from r. shared c o so i from (r .0) (r .1)))
   course-same (course.leave {x} c inside is) so =
-      let on = fits main (length s) (look s) (moves s) top low st at end order c .here in
+      let on = stands c .here in
       course.leave (course-same c (λ i other to. so i other (omega arith))) inside (seen-same x is (λ i from r. absurd r))
 
   pub blind-cut :
