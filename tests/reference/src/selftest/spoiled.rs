@@ -1,6 +1,8 @@
 //! What is overwritten has no say: the listing is the same, and so are the
 //! planes of the other channels. Every sort of part is met.
 
+use std::ops::Range;
+
 use super::Checks;
 use crate::cases::spoiled::{silent, spoiled, stored, Spoiled};
 use crate::psp::listing::{list, Entry, ALPHA_CHANNEL, CHANNEL, LAYER, PALETTE};
@@ -18,7 +20,7 @@ pub fn all(checks: &mut Checks) {
         }
     }
     for (name, met) in PARTS {
-        let holds = |spoiled: &&Spoiled| spoiled.now != spoiled.before && has(spoiled, met);
+        let holds = |spoiled: &&Spoiled| has(spoiled, met);
         let times = all.iter().filter(holds).count();
         checks.that(name, times >= 100);
     }
@@ -32,14 +34,15 @@ pub fn all(checks: &mut Checks) {
 
 type Met = fn(&Entry) -> bool;
 
-const PARTS: [(&str, Met); 8] = [
+const PARTS: [(&str, Met); 9] = [
     ("overwritten: a layer's colours", |e| is_channel(e, 0)),
     ("overwritten: a transparency mask", |e| is_channel(e, 1)),
     ("overwritten: a user mask", |e| is_channel(e, 2)),
     ("overwritten: a selection's channel", |e| is_channel(e, 3)),
     ("overwritten: an alpha channel's", |e| is_channel(e, 4)),
-    ("overwritten: a name", |e| {
-        is(e, LAYER) || is(e, ALPHA_CHANNEL)
+    ("overwritten: a layer's name", |e| is(e, LAYER)),
+    ("overwritten: an alpha channel's name", |e| {
+        is(e, ALPHA_CHANNEL)
     }),
     ("overwritten: a palette's colours", |e| is(e, PALETTE)),
     ("overwritten: a skipped block", |e| e.skipped == 1),
@@ -53,8 +56,10 @@ fn is_channel(entry: &Entry, bitmap: u32) -> bool {
     is(entry, CHANNEL) && entry.bitmap == bitmap
 }
 
+/// Whether such a part holds other bytes now.
 fn has(spoiled: &Spoiled, met: Met) -> bool {
-    let overwritten = |(entry, is): &(Entry, bool)| *is && met(entry);
+    let other = |part: Range<usize>| spoiled.now[part.clone()] != spoiled.before[part];
+    let overwritten = |(entry, _): &(Entry, bool)| met(entry) && silent(entry).is_some_and(other);
     spoiled.entries.iter().any(overwritten)
 }
 
