@@ -7,6 +7,7 @@ mod palette;
 mod skip;
 
 use answer::Refusal;
+pub use answers::filled_entry;
 pub use answers::ranked_entry;
 pub use answers::wrong_field;
 pub use bank::bank_block;

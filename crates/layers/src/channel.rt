@@ -31,7 +31,7 @@ fn awaited(st: State, parent: Parent, c: ChannelChunk) -> bool
 }
 
 // Its entry: a channel fills every part.
-fn channel_entry(level: usize, at: usize, layer: u32, c: ChannelChunk, size: Size) -> Entry
+pub fn channel_entry(level: usize, at: usize, layer: u32, c: ChannelChunk, size: Size) -> Entry
     requires { ⌜ (level < 2 ^ 32) × (at + channelHead + c .stored < 2 ^ 32) ⌝ }
     ensures { λ r. ⌜ r ≡ channelEntry level at layer c size ⌝ }
 {

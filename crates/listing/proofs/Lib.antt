@@ -1,7 +1,8 @@
--- Laws of the listing: what is asked of it, what its one walk leaves, and what holds of every listing.
+-- Laws of the listing: what is asked of it, what its one walk leaves, also where it passes plain blocks, and what holds of every listing.
 pub mod Noted
 pub mod Heads
 pub mod WalkOutcome
+pub mod PassedOn
 pub mod Numbers
 pub mod Tiled
 pub mod Prefix

@@ -1,6 +1,7 @@
 -- The walk notes entry by entry what a view asked of all of them: here is why that is the same, and that no more is found than was listed,
 -- so that the code's count cannot overflow.
-use mathlib.Core.Path.{_≡_, refl, sym, ap}
+use mathlib.Core.Path.{_≡_, refl, sym, ap, _∙_}
+use mathlib.Core.Bool.{false}
 use mathlib.Core.List.{List, [], _∷_, _++_, append-nil, append-assoc}
 use Prim.Native.Nat.{ℕ, zero, suc, _+_, _-_, _≤_}
 use native.Mathlib.Omega.{arith}
@@ -8,11 +9,12 @@ use lib.Dec.{eqb, eqb·zero-suc, eqb·suc-zero, eqb·suc-suc}
 use lib.ListN.{length, getD, length-append}
 use Rattle.laws.specs.Choice.{pick}
 use Rattle.laws.specs.Lists.{filter}
+use Rattle.laws.specs.All.{All, empty, both}
 use Rattle.laws.proofs.Choice.{pick-yes, pick-no, pick-ind}
 use Rattle.laws.proofs.Filter.{filter-more, filter-same}
 use Rattle.answer.specs.declared.Outcome.{Outcome}
 use Rattle.entry.specs.declared.Entry.{Entry}
-use Rattle.entry.specs.Entry.{nowhere, keep}
+use Rattle.entry.specs.Entry.{nowhere, stored, keep, write}
 use Rattle.walk.specs.Walk.{Listing}
 use Rattle.walk.specs.Room.{cut, Walked}
 use Rattle.walk.proofs.KeptAlong.{walked-along}
@@ -49,6 +51,21 @@ module _ (q : Question) where
   pub noted-all : (es : List Entry) → keep note nothing 0 es ≡ foundIn q es
   unfolding foundIn filter
   noted-all es = all-more es [] 0
+
+  -- ### Entries that are not asked about
+
+  pub unasked-kept : {es : List Entry} → All (λ (e : Entry). isAsked q e ≡ false) es → (t : List ℕ) (x : Found) (i : ℕ) → keep (put q) (kept t x) i es ≡ kept (write t i es) x
+  unfolding keep noted
+  unasked-kept empty t x i = refl
+  unasked-kept (both {x = e} {xs} other more) t x i =
+      ap (λ (y : Found). keep (put q) (kept (stored t i e) y) (i + 1) xs) (pick-no _ _ _ other) ∙ unasked-kept more (stored t i e) x (i + 1)
+
+  -- behind one that may be
+  pub first-kept :
+      {es : List Entry} → All (λ (e : Entry). isAsked q e ≡ false) es → (e : Entry) (t : List ℕ) (x : Found) (i : ℕ)
+      → keep (put q) (kept t x) i (e ∷ es) ≡ kept (write t i (e ∷ es)) (noted q x e)
+  unfolding keep
+  first-kept unasked e t x i = unasked-kept unasked (stored t i e) (noted q x e) (i + 1)
 
   -- ### No more than were listed
 

@@ -50,25 +50,37 @@ impl Codes {
     pub fn has(self, bitmap: u16, channel: u16) -> bool
         ensures { λ r. ⌜ r ≡ hasCodes self bitmap channel ⌝ }
     {
-        ((bitmap == 0) & (channel == 0) & self.composite)
-            | ((bitmap == 0) & (channel == 1) & self.red)
-            | ((bitmap == 0) & (channel == 2) & self.green)
-            | ((bitmap == 0) & (channel == 3) & self.blue)
-            | ((bitmap == 1) & self.transparency)
-            | ((bitmap == 2) & self.user)
+        match bitmap {
+            0 => match channel {
+                0 => self.composite,
+                1 => self.red,
+                2 => self.green,
+                3 => self.blue,
+                _ => false,
+            },
+            1 => self.transparency,
+            2 => self.user,
+            _ => false,
+        }
     }
 
     pub fn with(self, bitmap: u16, channel: u16) -> Codes
         ensures { λ r. ⌜ r ≡ withCodes self bitmap channel ⌝ }
     {
-        Codes {
-            composite: self.composite | ((bitmap == 0) & (channel == 0)),
-            red: self.red | ((bitmap == 0) & (channel == 1)),
-            green: self.green | ((bitmap == 0) & (channel == 2)),
-            blue: self.blue | ((bitmap == 0) & (channel == 3)),
-            transparency: self.transparency | (bitmap == 1),
-            user: self.user | (bitmap == 2),
+        let mut codes = self;
+        match bitmap {
+            0 => match channel {
+                0 => codes.composite = true,
+                1 => codes.red = true,
+                2 => codes.green = true,
+                3 => codes.blue = true,
+                _ => {}
+            },
+            1 => codes.transparency = true,
+            2 => codes.user = true,
+            _ => {}
         }
+        codes
     }
 
     // All colour channels of a layer have come.

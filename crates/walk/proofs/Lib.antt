@@ -6,6 +6,8 @@ pub mod Cut
 pub mod Course
 pub mod LoopArms
 pub mod LoopTurn
+pub mod CourseTurn
+pub mod CourseInside
 pub mod KeptAlong
 pub mod Invariant
 pub mod Tiling

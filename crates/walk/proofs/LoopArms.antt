@@ -70,7 +70,7 @@ module _ {S K : Type 0} (put : K → ℕ → Entry → K) (room : ℕ) where
       by-answer (e ◂ w) from t r q after (first e (cut (room - (from + 1)) w)) (ap (λ (n : ℕ). cut n (e ◂ w)) left ∙ cut-first _ e w)
       (m .answer) (m .place) (omega (arith, m .count)) (m .kept) (m .ends-in)
 
-  many-more :
+  pub many-more :
       (es : List Entry) (w : Listing S) (from mid : ℕ) (t : K) (r : Outcome) (q : S) (after : K) → mid ≡ from + length es → mid ≤ room
       → Walked put w room mid (keep put t from es) r q after → Walked put (es ⧺ w) room from t r q after
   unfolding keep
@@ -88,7 +88,7 @@ module _ {S K : Type 0} (put : K → ℕ → Entry → K) (room : ℕ) where
       (one-more next from t e r q after fits (subst (λ (x : K). Walked put next room (from + 1) x r q after) is m))
 
   -- an inside that refuses is the answer
-  halts :
+  pub halts :
       (b : Bool) (w : Listing S) (rest : Rest S) (from : ℕ) (t : K) (o : Outcome) (x : S) (mid : K)
       → isAccepted (w .answer) ≡ b → (o .answer ≡ Accepted → ⊥) → Walked put w room from t o x mid → Walked put (thenBy b w rest) room from t o x mid
   halts false w rest from t o x mid e some m = m
@@ -98,7 +98,7 @@ module _ {S K : Type 0} (put : K → ℕ → Entry → K) (room : ℕ) where
       (m .answer) (m .place) (m .count) (m .kept) (λ z. absurd (some z))
 
   -- an inside that was listed whole is followed by the rest
-  goes-on :
+  pub goes-on :
       (w : Listing S) (rest : Rest S) (from : ℕ) (t : K) (o : Outcome) (x : S) (mid : K) (r : Outcome) (q : S) (after : K)
       → from ≤ room → o .answer ≡ Accepted → Walked put w room from t o x mid
       → Walked put (rest (w .place) x) room (o .count) mid r q after → Walked put (andThen w rest) room from t r q after
