@@ -1,5 +1,5 @@
 -- Where the walk has passed plain blocks: what is left to walk from there is what was left before them.
-use mathlib.Core.Path.{_≡_, refl, sym, ap, ap₂, subst, subst⁻¹, _∙_}
+use mathlib.Core.Path.{_≡_, refl, sym, ap, ap₂, _∙_}
 use mathlib.Core.Bool.{Bool, true, false, _&&_}
 use mathlib.Core.List.{List, _∷_}
 use Prim.Native.Nat.{ℕ, _+_, _-_, _≤_, _<_}
@@ -18,17 +18,15 @@ use Rattle.walk.specs.Room.{Walked}
 use Rattle.walk.specs.Course.{leave}
 use Rattle.walk.proofs.LoopTurn.{Continues}
 use Rattle.walk.proofs.CourseTurn.{passed, halted, went-on}
-use Rattle.memory.specs.declared.parent.Parent.the-variants.{Layer}
 use Rattle.memory.specs.declared.state.State.{State}
 use Rattle.memory.specs.Parent.{main}
-use Rattle.memory.specs.State.{isFull}
 use Rattle.memory.proofs.Placed.{Begun}
 use Rattle.block.specs.Step.{stepAt}
 use Rattle.block.proofs.Owed.{moves}
 use Rattle.plain.specs.declared.skipped.Passed.{Passed}
 use Rattle.plain.specs.declared.layer.Layered.{Layered}
 use Rattle.plain.specs.Skips.{isPassable, Skips}
-use Rattle.plain.specs.Layer.{layerEntry, HoldsPlain}
+use Rattle.plain.specs.Layer.{layerEntry, isComplete, HoldsPlain}
 use Rattle.plain.proofs.SkipStep.{passable-unasked}
 use Rattle.listing.specs.declared.question.Question.{Question}
 use Rattle.listing.specs.declared.question.Found.{Found}
@@ -84,12 +82,10 @@ module _ (s : List ℕ) (q : Question) (end levels room : ℕ) (low : levels ≤
         went-on (put q) main (length s) (stepAt s) (moves s) st at end levels order low room from (kept t x) entries (r .count) (p .stores .counted) (p .stores .fits)
         (kept t' y) keeps (r .at) (r .after) (r .state) (p .goes)
 
-    -- it is complete
-    pub layer-ended : r .at ≡ r .after → isFull (r .state) Layer ≡ true → Going st at from (kept t x) (r .state) (r .at) (r .count) (kept t' y)
-    layer-ended last full =
-        subst⁻¹ (λ (n : ℕ). Going st at from (kept t x) (r .state) n (r .count) (kept t' y)) last
-        (passed (put q) main (length s) (stepAt s) (moves s) st at end levels order low room from (kept t x) entries (r .count) (p .stores .counted) (p .stores .fits)
-        (kept t' y) keeps (r .after) (r .state) (leave (p .goes) refl (p .ends last full)))
+    pub layer-ended : isComplete r ≡ true → Going st at from (kept t x) (r .state) (r .after) (r .count) (kept t' y)
+    layer-ended complete =
+        passed (put q) main (length s) (stepAt s) (moves s) st at end levels order low room from (kept t x) entries (r .count) (p .stores .counted) (p .stores .fits)
+        (kept t' y) keeps (r .after) (r .state) (leave (p .goes) refl (p .ends complete))
 
     pub layer-few : x .count ≤ from → y .count ≤ r .count
     layer-few few = omega (arith, p .stores .counted, one-few q x (layerEntry at (st .members .found)) from notes few)

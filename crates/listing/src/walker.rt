@@ -5,7 +5,6 @@ use crate::question::Question;
 use answer::Answer;
 use answer::Outcome;
 use kinds::Step;
-use memory::Parent;
 use memory::State;
 use plain::held;
 use plain::in_bank;
@@ -61,40 +60,40 @@ pub fn siblings(
     let mut count = from;
     let mut found = known;
     loop {
-        // A plain layer is complete behind its channels, or what else it holds is walked from there. No question about channels is told of
-        // those that were passed.
+        // A layer that is plain is passed with its channels, but for a question about channels, which is told of each. What else it holds is
+        // walked from behind them.
         if in_bank(state, levels) & (question.id != 5) {
             let number = state.members.found;
             let p = held(s, state, at, end, room, table, count);
             if p.plain {
                 found = found.note(question, layer_entry(at, number));
-                state = p.state;
-                at = p.at;
-                count = p.count;
-                let after = p.after;
-                if (at != after) | !state.full(Parent::Layer) {
-                    let o = enter(
-                        s,
-                        state,
-                        at,
-                        after,
-                        levels,
-                        room,
-                        table,
-                        count,
-                        question,
-                        found,
-                    );
-                    let outcome = o.outcome;
-                    let answer = outcome.answer;
-                    if !answer.accepted() {
-                        return o;
-                    }
-                    state = o.state;
+                if p.complete() {
+                    state = p.state;
                     at = p.after;
-                    count = outcome.count;
-                    found = o.found;
+                    count = p.count;
+                    continue;
                 }
+                let o = enter(
+                    s,
+                    p.state,
+                    p.at,
+                    p.after,
+                    levels,
+                    room,
+                    table,
+                    p.count,
+                    question,
+                    found,
+                );
+                let outcome = o.outcome;
+                let answer = outcome.answer;
+                if !answer.accepted() {
+                    return o;
+                }
+                state = o.state;
+                at = p.after;
+                count = outcome.count;
+                found = o.found;
                 continue;
             }
         }
@@ -119,7 +118,7 @@ pub fn siblings(
                 state = q;
                 at = next;
                 count += 1;
-                // What is skipped tends to come in runs; a question about an id that no rule knows is told of each.
+                // What is skipped tends to come in runs. A question about an id that no rule knows is told of each.
                 if (entry.block.skipped == 1) & (question.id < 12) {
                     let p = skips(s, at, end, levels, question.id, room, table, count);
                     at = p.at;

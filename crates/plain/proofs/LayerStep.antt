@@ -5,10 +5,11 @@ use mathlib.Core.List.{List, [], _∷_}
 use Prim.Native.Nat.{ℕ, _+_, _≤_}
 use native.Mathlib.Omega.{arith}
 use borrow.Author.Tests.{eq-eqb, ne-eqb, le-leb, lt-leb}
-use lib.Dec.{leb}
+use lib.Dec.{eqb, leb}
 use lib.ListN.{length}
 use Rattle.laws.specs.Choice.{pick}
 use Rattle.laws.proofs.Choice.{pick-yes, pick-no}
+use Rattle.laws.proofs.Tests.{both}
 use Rattle.walk.specs.Walk.{End, Nest}
 use Rattle.walk.proofs.Unit.{unit-there}
 use Rattle.headers.specs.declared.block_header.BlockHeader.{BlockHeader}
@@ -34,7 +35,8 @@ use Rattle.kinds.specs.Blocks.{Judged, permitted}
 use Rattle.layers.specs.Layers.{layerBlock}
 use Rattle.block.specs.Step.{areLengths, kindOf, stepAt}
 use Rattle.block.proofs.Passed.{by-layer}
-use Rattle.plain.specs.Layer.{GoodArea, PlainLayer, layerEntry}
+use Rattle.plain.specs.declared.layer.Layered.{Layered}
+use Rattle.plain.specs.Layer.{GoodArea, PlainLayer, layerEntry, isComplete}
 use Rattle.plain.proofs.EnteredStep.{Entered, entered-steps}
 
 -- ### Its chunk
@@ -114,8 +116,9 @@ module _ (s : List ℕ) (st : State) (at stop end : ℕ) (begun : Begun st) (of-
   pub layer-steps : stepAt s st at end 1 ≡ opens
   layer-steps = entered-steps s st at end 1 Bank entered (λ (e : 1 ≡ main). omega arith) held ∙ kind
 
--- its end, where nothing is missing
-pub layer-ends : (s : List ℕ) (st : State) (at end : ℕ) → st .opened ≡ Layers → at ≡ end → isFull st Layer ≡ true → stepAt s st at end 0 ≡ End
+-- its end, where it is complete
+pub layer-ends : (s : List ℕ) (r : Layered) → r .state .opened ≡ Layers → isComplete r ≡ true → stepAt s (r .state) (r .at) (r .after) 0 ≡ End
 unfolding stepAt parentAt pick
-layer-ends s st at end of-layers last full =
-    pick-yes _ _ _ (eq-eqb at end last) ∙ pick-yes _ _ _ (ap (λ (o : Open). isFull st (parentAt o 0)) of-layers ∙ full)
+layer-ends s r of-layers complete =
+    let k = both (eqb (r .at) (r .after)) _ complete in
+    pick-yes _ _ _ (k .0) ∙ pick-yes _ _ _ (ap (λ (o : Open). isFull (r .state) (parentAt o 0)) of-layers ∙ k .1)

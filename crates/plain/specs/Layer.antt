@@ -1,7 +1,7 @@
 -- A layer of the bank, with its channels.
 use Prim.Native.Nat.{ℕ, _+_, _-_, _≤_, _<_}
 use mathlib.Core.Path.{_≡_}
-use mathlib.Core.Bool.{true, false, _||_}
+use mathlib.Core.Bool.{Bool, true, false, _&&_, _||_}
 use mathlib.Core.List.{List, [], _∷_}
 use lib.Dec.{eqb}
 use lib.ListN.{length}
@@ -48,8 +48,11 @@ pub record PlainLayer (s : List ℕ) (st : State) (at stop : ℕ) : Type 0 where
 abbrev pub layerEntry : ℕ → ℕ → Entry
 layerEntry at number = ranked (block 4 0 1 at layerHead) number
 
--- a layer was entered and channels of it were passed: the walk stands inside it, and comes to its end there where nothing is left of the layer
--- and nothing is missing
+-- nothing is left of the layer, and nothing is missing
+abbrev pub isComplete : Layered → Bool
+isComplete r = eqb (r .at) (r .after) && isFull (r .state) Layer
+
+-- a layer was entered and channels of it were passed: the walk stands inside it, and at its end where it is complete
 pub record HoldsPlain (s : List ℕ) (st : State) (at end levels room from : ℕ) (t : List ℕ) (r : Layered) (t' : List ℕ) : Type 0 where
   pub entries : List Entry
   pub goes :
@@ -59,7 +62,7 @@ pub record HoldsPlain (s : List ℕ) (st : State) (at end levels room from : ℕ
   pub onward : at < r .at
   pub within : r .after ≤ end
   pub present : r .after ≤ length s
-  pub ends : r .at ≡ r .after → isFull (r .state) Layer ≡ true → stepAt s (r .state) (r .at) (r .after) (levels - 1) ≡ End
+  pub ends : isComplete r ≡ true → stepAt s (r .state) (r .at) (r .after) (levels - 1) ≡ End
 
 -- or nothing was done
 pub record Holds (s : List ℕ) (st : State) (at end room from : ℕ) (t : List ℕ) (r : Layered) (t' : List ℕ) : Type 0 where

@@ -8,6 +8,7 @@ use entry::Entry;
 use headers::block_header::BlockHeader;
 use memory::Codes;
 use memory::Open;
+use memory::Parent;
 use memory::State;
 ghost use mathlib.Core.Path.{_≡_};
 ghost use mathlib.Core.Bool.{true};
@@ -16,7 +17,7 @@ ghost use lib.ListN.{length};
 ghost use Rattle.attributes.specs.declared.fault.Fault.the-variants.{None};
 ghost use Rattle.chunk.specs.LayerInformation.{layerFault};
 ghost use Rattle.plain.specs.Channels.{withLeft};
-ghost use Rattle.plain.specs.Layer.{Banked, GoodArea, PlainLayer, layerEntry, Holds};
+ghost use Rattle.plain.specs.Layer.{Banked, GoodArea, PlainLayer, layerEntry, isComplete, Holds};
 ghost use Rattle.plain.specs.Standing.{Standing};
 
 const HEAD: usize = BlockHeader::SIZE + LayerChunk::SIZE;
@@ -29,6 +30,16 @@ pub struct Layered {
     pub at: usize,
     pub count: usize,
     pub state: State,
+}
+
+impl Layered {
+    // Nothing is left of the layer behind these channels, and none is missing.
+    pub fn complete(self) -> bool
+        ensures { λ r. ⌜ r ≡ isComplete self ⌝ }
+    {
+        let state = self.state;
+        (self.at == self.after) & state.full(Parent::Layer)
+    }
 }
 
 // In the bank of layers, behind the image.

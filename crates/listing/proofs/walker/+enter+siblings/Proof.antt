@@ -1,7 +1,6 @@
 -- The walk meets its contract: what is left to walk from a turn on is what is left from the start. Levels fall from call to call, and
 -- bytes left in the parent from turn to turn.
 use mathlib.Core.Path.{_≡_, refl, sym, ap, ap₂, subst, subst⁻¹, _∙_}
-use mathlib.Core.Bool.{true, not}
 use mathlib.Core.Logic.{⊎-elim}
 use mathlib.Core.List.{List}
 use Prim.Native.Nat.{ℕ, _+_, _-_, _*_, _<_, _≤_}
@@ -13,18 +12,15 @@ use borrow.Fn.PlainCycle.{Measures, is, falls, and}
 use denote.Ref.{now}
 use lib.Dec.{eqb}
 use lib.ListN.{length}
-use Rattle.laws.proofs.Tests.{both, neither}
+use Rattle.laws.proofs.Tests.{both}
 use Rattle.answer.proofs.Names.{accepted-is, not-accepted}
 use Rattle.answer.proofs.Answer.accepted.Reads as accepted-reads
 use Rattle.walk.specs.Walk.{run}
 use Rattle.walk.proofs.LoopTurn.{Continues, OnLeaf, OnNest, Turn, turn}
 use Rattle.entry.proofs.store.Reads as store-reads
 use Rattle.memory.specs.declared.state.State.{State}
-use Rattle.memory.specs.declared.parent.Parent.the-variants.{Layer}
 use Rattle.memory.specs.Parent.{main}
-use Rattle.memory.specs.State.{isFull}
 use Rattle.kinds.specs.Blocks.{told}
-use Rattle.memory.proofs.state.State.full.Reads as full-reads
 use Rattle.block.specs.Step.{stepAt}
 use Rattle.block.proofs.Owed.{moves}
 use Rattle.block.proofs.look.Reads as look-reads
@@ -32,6 +28,7 @@ use Rattle.plain.specs.Layer.{Banked, layerEntry, HoldsPlain}
 use Rattle.plain.proofs.SkipStep.{behind-skip}
 use Rattle.plain.proofs.held.Reads as held-reads
 use Rattle.plain.proofs.in_bank.Reads as in-bank-reads
+use Rattle.plain.proofs.layer.Layered.complete.Reads as complete-reads
 use Rattle.plain.proofs.layer_entry.Reads as layer-entry-reads
 use Rattle.plain.proofs.skips.Reads as skips-reads
 use Rattle.listing.specs.declared.question.Question.{Question}
@@ -81,8 +78,8 @@ calls t = (
   layer-entry-reads.Learnt,
   note-reads.Asked,
   note-reads.Learnt,
-  full-reads.Asked,
-  full-reads.Learnt,
+  complete-reads.Asked,
+  complete-reads.Learnt,
   enter-below t,
   enter.Post,
   accepted-reads.Asked,
@@ -203,24 +200,43 @@ module _ (t : ℕ) where
       let p = plain-at (c .before) in
       omega (arith, p .stores .counted, p .stores .fits, l .loop .inv .few, l .before .before .before .fits .room)
 
+  -- it is complete
+
+  loop-less : siblings-lts.Need-loop-less (calls t) (siblings-at t) siblings.Post siblings-Inv-loop siblings-μ-loop
+  loop-less c =
+      let p = plain-at (c .before .before .before .before .before) in
+      omega (arith, p .onward, p .stores .within, p .within)
+
+  loop-again : siblings-lts.Need-loop-again (calls t) (siblings-at t) siblings.Post siblings-Inv-loop siblings-μ-loop
+  loop-again c =
+      let n = c .before .before .before in
+      let x = n .before .before in
+      let l = n .before .before .before .before .before .before .before .before .before .before in
+      let a = l .before .before .before in
+      let i = l .loop .inv in
+      let p = plain-at x in
+      let on = layer-ended (now (a .args .s)) (a .args .question) (a .args .end) (a .args .levels) (a .args .room) (a .pre .1 .low) (l .loop .state) (l .loop .at) (l .loop .count)
+      (l .loop .table) _ _ (i .order) p (unasked-at x) (l .loop .found) (n .note .result) (noted-at n) (sym (c .before .before .complete .ensures) ∙ c .before .if3 .taken) in
+      record {
+        order = p .within;
+        fits = p .stores .fits;
+        few = few-plain n;
+        same = n .before .before .before .before .before .held .kept .1 .1 .1 .1 .1 .0 ∙ i .same;
+        on = λ r q after m. i .on r q after (on r q after m);
+      }
+
+  -- or what else it holds is walked
+
   enter-requires : siblings-lts.Need-enter-requires (calls t) (siblings-at t) siblings.Post siblings-Inv-loop siblings-μ-loop
   enter-requires c κs =
-      let n = c .before .before .before .before in
+      let n = c .before .before .before in
       let p = plain-at (n .before .before) in
-      omega (
-        arith,
-        p .stores .within,
-        p .stores .fits,
-        p .within,
-        few-plain n,
-        banked-at (n .before .before) .level,
-        n .before .before .before .before .before .before .before .before .before .before .before .before .before .pre,
-      )
+      omega (arith, p .stores .within, p .stores .fits, p .within, few-plain n, banked-at (n .before .before) .level, c .before .before .before .before .before .before .before .before .before .before .before .before .before .before .before .before .pre)
 
   returns : siblings-lts.Need-returns (calls t) (siblings-at t) siblings.Post siblings-Inv-loop siblings-μ-loop
   returns c =
       let e = c .before .before .before .before .before in
-      let n = e .before .before .before .before .before in
+      let n = e .before .before .before .before in
       let x = n .before .before in
       let l = n .before .before .before .before .before .before .before .before .before .before in
       let a = l .before .before .before in
@@ -229,16 +245,16 @@ module _ (t : ℕ) where
       (l .loop .table) _ _ (l .loop .inv .order) (plain-at x) (unasked-at x) (l .loop .found) (n .note .result) (noted-at n) _ _ _ (e .enter .ensures)
       (not-accepted (sym (c .before .accepted .ensures) ∙ not-true _ (c .if4 .taken))))
 
-  loop-less : siblings-lts.Need-loop-less (calls t) (siblings-at t) siblings.Post siblings-Inv-loop siblings-μ-loop
-  loop-less c =
-      let p = plain-at (c .before .before .before .before .before .before .before .before .before .before .before .before .before .before) in
+  loop-less-2 : siblings-lts.Need-loop-less-2 (calls t) (siblings-at t) siblings.Post siblings-Inv-loop siblings-μ-loop
+  loop-less-2 c =
+      let p = plain-at (c .before .before .before .before .before .before .before .before .before .before .before .before .before) in
       omega (arith, p .onward, p .stores .within, p .within)
 
-  loop-again : siblings-lts.Need-loop-again (calls t) (siblings-at t) siblings.Post siblings-Inv-loop siblings-μ-loop
-  loop-again c =
+  loop-again-2 : siblings-lts.Need-loop-again-2 (calls t) (siblings-at t) siblings.Post siblings-Inv-loop siblings-μ-loop
+  loop-again-2 c =
       let y = c .before .before in
       let e = y .before .before .before .before .before in
-      let n = e .before .before .before .before .before in
+      let n = e .before .before .before .before in
       let x = n .before .before in
       let l = n .before .before .before .before .before .before .before .before .before .before in
       let a = l .before .before .before in
@@ -252,40 +268,6 @@ module _ (t : ℕ) where
         few = walked-few _ _ _ _ _ _ _ _ _ _ (few-plain n) (e .enter .ensures);
         same = e .enter .kept .1 .1 .1 .1 .1 .1 .0 ∙ n .before .before .before .before .before .held .kept .1 .1 .1 .1 .1 .0 ∙ i .same;
         on = λ r q after m. i .on r q after (on .1 r q after m);
-      }
-
-  -- it is complete
-  last-at :
-      (c : siblings-lts.Else3 (calls t) (siblings-at t) siblings.Post siblings-Inv-loop siblings-μ-loop)
-      → let r = c .before .before .before .before .before .before .before .before .held .result in
-      (r .at ≡ r .after) × (isFull (r .state) Layer ≡ true)
-  last-at c =
-      let r = c .before .before .before .before .before .before .before .before .held .result in
-      let k = neither (not (eqb (r .at) (r .after))) (not (c .before .full .result)) (c .if3 .left) in
-      (eqb-true (r .at) (r .after) (not-false _ (k .0)), sym (c .before .full .ensures) ∙ not-false _ (k .1))
-
-  loop-less-2 : siblings-lts.Need-loop-less-2 (calls t) (siblings-at t) siblings.Post siblings-Inv-loop siblings-μ-loop
-  loop-less-2 c =
-      let p = plain-at (c .before .before .before .before .before) in
-      omega (arith, p .onward, p .stores .within, p .within)
-
-  loop-again-2 : siblings-lts.Need-loop-again-2 (calls t) (siblings-at t) siblings.Post siblings-Inv-loop siblings-μ-loop
-  loop-again-2 c =
-      let n = c .before .before .before in
-      let x = n .before .before in
-      let h = n .before .before .before .before .before .held in
-      let l = n .before .before .before .before .before .before .before .before .before .before in
-      let a = l .before .before .before in
-      let p = plain-at x in
-      let last = last-at c in
-      let on = layer-ended (now (a .args .s)) (a .args .question) (a .args .end) (a .args .levels) (a .args .room) (a .pre .1 .low) (l .loop .state) (l .loop .at) (l .loop .count)
-      (l .loop .table) _ _ (l .loop .inv .order) p (unasked-at x) (l .loop .found) (n .note .result) (noted-at n) (last .0) (last .1) in
-      record {
-        order = omega (arith, p .stores .within, p .within);
-        fits = p .stores .fits;
-        few = few-plain n;
-        same = h .kept .1 .1 .1 .1 .1 .0 ∙ l .loop .inv .same;
-        on = λ o q after m. l .loop .inv .on o q after (on o q after m);
       }
 
   -- ### An end, and a refusal
@@ -478,15 +460,15 @@ pub +enter+siblings-spec : {M : Type 1} → statement M
     (layer-entry-requires t)
     (note-requires t)
     (λ c κs. search needs)
+    (loop-less t)
+    (loop-again t)
     (enter-requires t)
     (λ c κs. search needs)
     (λ c.
     let e = c .before .before .before .before .before in
-    let h = e .before .before .before .before .before .before .before .before .before .before in
+    let h = e .before .before .before .before .before .before .before .before .before in
     e .enter .kept .1 .1 .1 .1 .1 .1 .0 ∙ h .held .kept .1 .1 .1 .1 .1 .0 ∙ h .before .before .before .before .before .loop .inv .same)
     (returns t)
-    (loop-less t)
-    (loop-again t)
     (loop-less-2 t)
     (loop-again-2 t)
     (λ c κs. omega arith)

@@ -89,7 +89,7 @@ returns-3 c =
             onward = omega (arith, told .stores .onward);
             within = omega (arith, p .whole, total, reached .reach .ensures .1);
             present = omega (arith, p .whole, total, reached .reach .ensures .0);
-            ends = layer-ends s (c .behind .result) _ _ (ap (λ (st : State). st .opened) (c .behind .ensures) ∙ of-layers);
+            ends = layer-ends s r' (ap (λ (st : State). st .opened) (c .behind .ensures) ∙ of-layers);
           });
       other = λ no. never (sym no);
     }
