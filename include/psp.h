@@ -24,7 +24,7 @@ extern "C" {
 /* ---- Version ---- */
 
 #define PSP_VERSION_MAJOR 0
-#define PSP_VERSION_MINOR 8
+#define PSP_VERSION_MINOR 9
 #define PSP_VERSION_PATCH 0
 #define PSP_VERSION (PSP_VERSION_MAJOR * 10000 + PSP_VERSION_MINOR * 100 + PSP_VERSION_PATCH)
 
@@ -69,12 +69,12 @@ uint32_t psp_version(void);
 #define PSP_RECT_WRONG 41    /* no such rectangle */
 #define PSP_PLANE_WRONG 42   /* a row or a plane that is not the rectangle's */
 
-/* Views. */
+/* Views, and facts at a place. */
 #define PSP_NO_PALETTE 43    /* depth 24 */
 #define PSP_NO_RAMP 44       /* a ramp of another length than 1,024 would have to stand in */
-#define PSP_NO_LAYER 45      /* k is past the last layer */
-#define PSP_NO_SELECTION 46  /* no selection */
-#define PSP_NO_ALPHA 47      /* k is past the last alpha channel */
+#define PSP_NO_LAYER 45      /* k is past the last layer, or no layer stands at the place */
+#define PSP_NO_SELECTION 46  /* no selection, or none at the place */
+#define PSP_NO_ALPHA 47      /* k is past the last alpha channel, or none stands at the place */
 
 /* Saving a table, and reading it back. */
 #define PSP_SAVED_LENGTH 70   /* a length that is not the file's, or that four bytes cannot say */
@@ -339,6 +339,34 @@ typedef struct psp_alpha_facts {
 /* Gives every field of the chunk of alpha channel k; the input is listed first in a room of so many entries (0 to 12, 47). A refusal gives
  * zeros. Nothing is written. */
 psp_alpha_facts psp_read_alpha_facts(const uint8_t *input, size_t length, size_t room, uint32_t k);
+
+/* ---- Facts at a place that a listing gave ---- */
+
+/* These five read the block whose header starts at a place of the input, the place of an entry. Nothing is listed again: each costs what
+ * reading one chunk costs, however long the file is. The listing that gave the place may have been refused. At the place of a layer, a
+ * selection or an alpha channel that is listed the answer is 0 and that block's chunk. Of an accepted input it is what the view gives for
+ * the entry's layer number.
+ *
+ * A refusal means that no such block stands there: header and chunk do not both lie inside the input, the mark is wrong, the id is another,
+ * or the header's lengths are not those of the kind. Whether such a block may stand there is not asked, and its fields are not judged: the
+ * listing does that. A caller that makes places up gets what stands there. */
+
+/* Gives every field of the chunk of the layer at a place (0, 45). A refusal gives zeros. Nothing is written. */
+psp_layer_facts psp_layer_at(const uint8_t *input, size_t length, size_t place);
+
+/* Shows the name of that layer, its bytes before the first zero or all 256 (0, 45). Nothing is written. */
+psp_part psp_name_at(const uint8_t *input, size_t length, size_t place);
+
+/* Gives every field of the chunk of the selection at a place (0, 46). A refusal gives zeros. Nothing is written. */
+psp_selection_facts psp_selection_at(const uint8_t *input, size_t length, size_t place);
+
+/* Gives every field of the chunk of the alpha channel at a place (0, 47). A refusal gives zeros. Nothing is written. */
+psp_alpha_facts psp_alpha_at(const uint8_t *input, size_t length, size_t place);
+
+/* Shows the name of that alpha channel, likewise (0, 47). Nothing is written. */
+psp_part psp_alpha_name_at(const uint8_t *input, size_t length, size_t place);
+
+/* ---- Resolutions ---- */
 
 typedef struct psp_dots {
   uint32_t known;  /* 0 or 1 */

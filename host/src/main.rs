@@ -96,7 +96,7 @@ refused, differs or lacks what was asked for, 2 for wrong use or a file that can
 written. Work of more than a second is told of on standard error, if that is a terminal.
 ";
 
-const VERSION: &str = "0.8.0";
+const VERSION: &str = "0.9.0";
 
 struct Command {
     help: &'static str,

@@ -431,6 +431,66 @@ fn a_selection_and_alpha_channels_have_facts() {
 }
 
 #[test]
+fn at_the_places_of_a_table_stand_the_facts_of_the_views() {
+    let (file, room) = (grey_with_masks(), usize::MAX);
+    let mut table = [0; 11 * ENTRY_NUMBERS];
+    let mut records = [Entry::default(); 11];
+    assert_eq!(psp::list_records(&file, &mut table, &mut records), Ok(11));
+    for entry in records {
+        let (place, k) = (entry.place as usize, entry.layer);
+        let layer = numbers::layer_at(&file, place);
+        let selection = numbers::selection_at(&file, place);
+        let alpha = numbers::alpha_at(&file, place);
+        let is = |id, missing| if entry.id == id { 0 } else { missing };
+        assert_eq!(layer.number, is(4, 45));
+        assert_eq!(selection.number, is(6, 46));
+        assert_eq!(alpha.number, is(8, 47));
+        let name = numbers::name_at(&file, place);
+        let alpha_name = numbers::alpha_name_at(&file, place);
+        match entry.id {
+            4 => {
+                let view = numbers::layer_facts(&file, room, k).layer;
+                assert_eq!(format!("{:?}", layer.layer), format!("{:?}", view));
+                assert_eq!(name, numbers::name(&file, room, k));
+            }
+            6 => assert_eq!(selection.selection.area.saved, SQUARE),
+            8 => {
+                let view = numbers::alpha_facts(&file, room, k).alpha;
+                assert_eq!(format!("{:?}", alpha.alpha), format!("{:?}", view));
+                assert_eq!(alpha_name, numbers::alpha_name(&file, room, k));
+            }
+            _ => {
+                assert_eq!((name.number, name.bytes), (45, &[][..]));
+                assert_eq!((alpha_name.number, alpha_name.bytes), (47, &[][..]));
+            }
+        }
+    }
+}
+
+/// A refused listing has places too, and no place is too large.
+#[test]
+fn facts_at_a_place_need_no_accepted_file() {
+    let file = grey();
+    let cut = &file[..491];
+    assert_eq!(psp::count(cut, usize::MAX).map_err(|r| r.count), Err(3));
+    let saved = psp::layer_at(cut, 102).map(|layer| layer.image.saved);
+    assert_eq!(saved, Ok(SQUARE));
+    assert_eq!(psp::name_at(cut, 102), Ok(&b"a"[..]));
+    for place in [0, 101, 103, 491, usize::MAX - 13, usize::MAX] {
+        assert_eq!(psp::name_at(&file, place), Err(Refusal::NoLayer));
+        let none = psp::selection_at(&file, place).map(|selection| selection.channels);
+        assert_eq!(none, Err(Refusal::NoSelection));
+        assert_eq!(psp::alpha_name_at(&file, place), Err(Refusal::NoAlpha));
+    }
+    let short = psp::layer_at(&file[..490], 102).map(|layer| layer.channels);
+    assert_eq!(short, Err(Refusal::NoLayer));
+    assert_eq!(
+        psp::alpha_at(&[], 0).map(|a| a.channels),
+        Err(Refusal::NoAlpha)
+    );
+}
+
+#[test]
 fn dots_per_centimetre_is_one_division() {
     let inch = numbers::dots_per_centimetre(300.0, 1);
     assert_eq!((inch.known, inch.value), (1, 300.0 / 2.54));
@@ -461,7 +521,7 @@ fn slices_may_be_empty() {
 #[test]
 fn the_library_is_the_header_s_and_the_crate_s() {
     assert_eq!(numbers::version(), psp::ffi::VERSION);
-    assert_eq!(psp::version().to_string(), "0.8.0");
+    assert_eq!(psp::version().to_string(), "0.9.0");
     // Where cargo builds this, its own manifest has the version too.
     if let Some(version) = option_env!("CARGO_PKG_VERSION") {
         assert_eq!(psp::version().to_string(), version);

@@ -1,6 +1,6 @@
 /* The header against the archive, in C and in C++: header FILE, document 01's file of 521 bytes. Their versions agree, their entries too,
- * also one by one, a wrong field has its own place, a selection and alpha channels have their fields, a table is saved and read back, and
- * every function takes a null pointer where the length is 0: its answer is the one that a buffer of length 0 gets. */
+ * also one by one, a wrong field has its own place, a selection and alpha channels have their fields, also at their places, a table is
+ * saved and read back, and every function takes a null pointer where the length is 0: its answer is that of a buffer of length 0. */
 #include <psp.h>
 #include <stdio.h>
 #include <string.h>
@@ -204,6 +204,40 @@ static size_t area(uint8_t *file, size_t at, uint8_t bitmap) {
   return at + sizeof channel;
 }
 
+/* At the place of each entry stand the fields of its kind, and nothing of another. */
+static void places(const uint8_t *file, size_t length) {
+  enum { ROOM = 11, NUMBERS = ROOM * PSP_ENTRY_NUMBERS };
+  uint32_t table[NUMBERS];
+  psp_entry records[ROOM];
+  psp_layer_facts layer;
+  psp_alpha_facts alpha;
+  psp_part name;
+  size_t k;
+  hold(psp_list_records(file, length, table, NUMBERS, records, ROOM).count == ROOM, "psp_layer_at: the listing");
+  for (k = 0; k < ROOM; k++) {
+    uint32_t id = records[k].id;
+    size_t place = records[k].place;
+    hold(psp_layer_at(file, length, place).number == (id == 4 ? PSP_ACCEPTED : PSP_NO_LAYER), "psp_layer_at: an entry");
+    hold(psp_selection_at(file, length, place).number == (id == 6 ? PSP_ACCEPTED : PSP_NO_SELECTION), "psp_selection_at: an entry");
+    hold(psp_alpha_at(file, length, place).number == (id == 8 ? PSP_ACCEPTED : PSP_NO_ALPHA), "psp_alpha_at: an entry");
+    hold(id == 4 || is_part(psp_name_at(file, length, place), PSP_NO_LAYER), "psp_name_at: an entry");
+    hold(id == 8 || is_part(psp_alpha_name_at(file, length, place), PSP_NO_ALPHA), "psp_alpha_name_at: an entry");
+  }
+  layer = psp_layer_at(file, length, records[2].place);
+  hold(layer.layer.name[0] == 'l' && layer.layer.image.saved.right == 1 && layer.layer.channels == 1, "psp_layer_at: the fields");
+  name = psp_name_at(file, length, records[2].place);
+  hold(name.which == 0 && name.length == 1 && file[name.start] == 'l', "psp_name_at: the name");
+  hold(psp_selection_at(file, length, records[4].place).selection.area.saved.right == 1, "psp_selection_at: the fields");
+  alpha = psp_alpha_at(file, length, records[9].place);
+  hold(alpha.alpha.name[0] == 'b' && alpha.alpha.area.border.bottom == 1 && alpha.alpha.channels == 1, "psp_alpha_at: the fields");
+  name = psp_alpha_name_at(file, length, records[9].place);
+  hold(name.which == 0 && name.length == 1 && file[name.start] == 'b', "psp_alpha_name_at: the name");
+  hold(psp_layer_at(file, length, SIZE_MAX).number == PSP_NO_LAYER, "psp_layer_at: the greatest place");
+  hold(psp_layer_at(NULL, 0, 0).number == PSP_NO_LAYER && is_part(psp_name_at(NULL, 0, 0), PSP_NO_LAYER), "psp_layer_at: no input");
+  hold(psp_selection_at(NULL, 0, 0).number == PSP_NO_SELECTION, "psp_selection_at: no input");
+  hold(psp_alpha_at(NULL, 0, 0).number == PSP_NO_ALPHA && is_part(psp_alpha_name_at(NULL, 0, 0), PSP_NO_ALPHA), "psp_alpha_at: no input");
+}
+
 /* Fields stand where the library writes them, and what is not there has a number of its own. */
 static void masks(const uint8_t *file, size_t length) {
   static uint8_t whole[2048];
@@ -214,6 +248,7 @@ static void masks(const uint8_t *file, size_t length) {
   hold(selection.number == PSP_NO_SELECTION && alpha.number == PSP_NO_ALPHA, "neither selection nor alpha channel");
   hold(is_part(psp_alpha_name(file, length, SIZE_MAX, 0), PSP_NO_ALPHA), "psp_alpha_name: no alpha channel");
   memcpy(whole, file, length);
+  memcpy(whole + 116, "l", 2); /* the layer's name */
   at = area(whole, block(whole, at, 6, 36, 63), 3);
   at = block(whole, at, 7, 2, 2 + 2 * (14 + 319));
   whole[at] = 2;
@@ -235,6 +270,7 @@ static void masks(const uint8_t *file, size_t length) {
   name = psp_alpha_name(whole, at, SIZE_MAX, 1);
   hold(name.number == PSP_ACCEPTED && name.which == 0 && name.length == 1 && whole[name.start] == 'b', "psp_alpha_name: the name");
   hold(psp_read_alpha_facts(whole, at, SIZE_MAX, 2).number == PSP_NO_ALPHA, "psp_read_alpha_facts: no third");
+  places(whole, at);
 }
 
 static void vectors(void) {

@@ -9,6 +9,7 @@ use Rattle.kinds.specs.declared.Step.{Step}
 use Rattle.kinds.specs.declared.Step.the-variants as code
 use Rattle.kinds.specs.Blocks.{told}
 use Rattle.block.proofs.header.block.Reads as block
+use Rattle.block.proofs.header.lengths.Reads as lengths
 use Rattle.block.proofs.looking.edge_at.Reads as edge-at
 use Rattle.block.proofs.looking.look.Reads as look
 
@@ -30,6 +31,9 @@ look-one l a y z e f p q = answer-one told back told-back y z (one p q)
 
 pub block-one : OneResult block.Learnt
 block-one l a y z e f p q = answer-one told back told-back y z (one p q)
+
+pub lengths-one : OneResult lengths.Learnt
+lengths-one l a y z e f = one
 
 pub edge-at-one : OneResult edge-at.Learnt
 edge-at-one l a y z e f = one

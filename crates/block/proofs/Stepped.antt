@@ -19,7 +19,7 @@ use Rattle.entry.specs.Entry.{block, content, plain, ranked, filled}
 use Rattle.walk.specs.Walk.{Step, End, Stop, Leaf, Nest}
 use Rattle.walk.proofs.Unit.{unit-ind}
 use Rattle.headers.specs.declared.block_header.BlockHeader.{BlockHeader}
-use Rattle.headers.specs.BlockHeader.{blockHeaderSize, blockHeaderOf, blockHeaderAt}
+use Rattle.headers.specs.BlockHeader.{blockHeaderSize, blockHeaderOf, blockHeaderAt, isMarked}
 use Rattle.attributes.specs.declared.fault.Fault.{Fault}
 use Rattle.attributes.specs.declared.fault.Fault.the-variants.{None, At}
 use Rattle.attributes.specs.ImageAttributes.{imageSize, imageAt, imageFault}
@@ -207,9 +207,12 @@ module _ (s : List ℕ) (st : State) (at end levels : ℕ) where
 
   -- ### The step
 
-  -- an entry has the id of the header at its place, and all that the header announces where it is skipped
+  -- the header at an entry's place is marked and has its id; its lengths are those of its kind, and of a skipped block all that it announces
+  -- is content
   pub record OfHeader (e : Entry) : Type 0 where
+    pub marked : isMarked (blockHeaderAt s at) ≡ true
     pub named : e .block .id ≡ blockHeaderAt s at .id
+    pub lengths : e .block .skipped ≡ 0 → areLengths (blockHeaderAt s at) ≡ true
     pub whole : e .block .skipped ≡ 1 → e .content .stored ≡ blockHeaderAt s at .total
 
   -- the end of the input, or of the parent; a refusal here or further on, 8 at a field; an entry
@@ -228,10 +231,17 @@ module _ (s : List ℕ) (st : State) (at end levels : ℕ) where
   further : {r : Refusal} (n : ℕ) → eqb (refusalNumber r) 8 ≡ false → Stepped (Stop r (at + n))
   further n other = let low : at ≤ at + n = omega arith in stopped low other
 
-  module _ (header : at + blockHeaderSize ≤ length s) (h : BlockHeader) (same : h ≡ blockHeaderAt s at) (fits : at + blockHeaderSize + h .total ≤ end) where
+  module _
+      (header : at + blockHeaderSize ≤ length s) (h : BlockHeader) (same : h ≡ blockHeaderAt s at) (mark : isMarked h ≡ true)
+      (fits : at + blockHeaderSize + h .total ≤ end) where
     -- an entry that is not skipped, by its id
-    entered : {e : Entry} → h .id ≡ e .block .id → e .block .skipped ≡ 0 → OfHeader e
-    entered id kept = record { named = sym id ∙ ap (λ (x : BlockHeader). x .id) same; whole = λ yes. absurd (omega arith) }
+    entered : {e : Entry} → areLengths h ≡ true → h .id ≡ e .block .id → e .block .skipped ≡ 0 → OfHeader e
+    entered good id kept = record {
+      marked = subst (λ (x : BlockHeader). isMarked x ≡ true) same mark;
+      named = sym id ∙ ap (λ (x : BlockHeader). x .id) same;
+      lengths = λ _. subst (λ (x : BlockHeader). areLengths x ≡ true) same good;
+      whole = λ yes. absurd (omega arith);
+    }
 
     chunked : {id size : ℕ} → h .id ≡ id → chunkPlace + size ≤ length s → Chunked s at id size
     chunked id there = record { is = sym (ap (λ (x : BlockHeader). x .id) same) ∙ id; present = there }
@@ -240,7 +250,12 @@ module _ (s : List ℕ) (st : State) (at end levels : ℕ) where
     unfolding skipBlock
     skip-stepped begun unused =
         unit-ind Stepped s chunkPlace (h .total) _ (λ _. further blockHeaderSize refl) (λ there.
-        leafed (record { named = ap (λ (x : BlockHeader). x .id) same; whole = λ _. ap (λ (x : BlockHeader). x .total) same }) (a-skip (record {
+        leafed (record {
+          marked = subst (λ (x : BlockHeader). isMarked x ≡ true) same mark;
+          named = ap (λ (x : BlockHeader). x .id) same;
+          lengths = λ no. absurd (omega arith);
+          whole = λ _. ap (λ (x : BlockHeader). x .total) same;
+        }) (a-skip (record {
           id = h .id;
           total = h .total;
           begun = begun;
@@ -252,13 +267,14 @@ module _ (s : List ℕ) (st : State) (at end levels : ℕ) where
           state = refl;
         })))
 
-    image-stepped : h .id ≡ 0 → st .image .depth ≡ 0 → h .total ≡ imageSize → Stepped (imageBlock s st at level)
+    image-stepped : areLengths h ≡ true → h .id ≡ 0 → st .image .depth ≡ 0 → Stepped (imageBlock s st at level)
     unfolding imageBlock
-    image-stepped id none whole =
+    image-stepped lengths id none =
+        let whole = image-total h lengths id in
         unit-ind Stepped s chunkPlace imageSize _ (λ _. further blockHeaderSize refl) (λ there.
         permitted-ind Stepped _ _ _ (λ _ bad. named (an-image's (chunked id there) none bad)) (λ good.
         pick-ind Stepped _ _ _ (λ _. further blockHeaderSize refl) (λ other.
-        leafed (entered id refl) (an-image (record {
+        leafed (entered lengths id refl) (an-image (record {
           permitted-all = good;
           readable = eqb-false (imageAt s chunkPlace .compression) 2 other;
           first = none;
@@ -270,15 +286,16 @@ module _ (s : List ℕ) (st : State) (at end levels : ℕ) where
         })))))
 
     palette-stepped :
-        h .id ≡ 2 → Begun st → levels ≡ main → st .met .palette ≡ false → (st .image .depth ≡ 24 → ⊥) → Stepped (paletteBlock s st (h .total) at level)
+        areLengths h ≡ true → h .id ≡ 2 → Begun st → levels ≡ main → st .met .palette ≡ false → (st .image .depth ≡ 24 → ⊥)
+        → Stepped (paletteBlock s st (h .total) at level)
     unfolding paletteBlock paletteCounted
-    palette-stepped id begun top once used =
+    palette-stepped lengths id begun top once used =
         unit-ind Stepped s chunkPlace paletteSize _ (λ _. further blockHeaderSize refl) (λ there.
         let n = paletteAt s chunkPlace .count in
         permitted-ind Stepped _ _ _ (λ _ bad. named (a-palette's (chunked id there) begun used bad)) (λ good.
         pick-ind Stepped _ _ _ (λ whole.
         unit-ind Stepped s (at + paletteHead) (4 * n) _ (λ _. further paletteHead refl) (λ all.
-        leafed (entered id refl) (a-palette (record {
+        leafed (entered lengths id refl) (a-palette (record {
           count = n;
           is = refl;
           permitted-all = good;
@@ -294,10 +311,10 @@ module _ (s : List ℕ) (st : State) (at end levels : ℕ) where
         }))))
         (λ _. here refl)))
 
-    bank-stepped : h .id ≡ 3 → Begun st → levels ≡ main → st .met .bank ≡ false → Stepped (bankBlock st (h .total) at level)
+    bank-stepped : areLengths h ≡ true → h .id ≡ 3 → Begun st → levels ≡ main → st .met .bank ≡ false → Stepped (bankBlock st (h .total) at level)
     unfolding bankBlock
-    bank-stepped id begun top once =
-        nested (entered id refl) (a-bank (record {
+    bank-stepped lengths id begun top once =
+        nested (entered lengths id refl) (a-bank (record {
           total = h .total;
           opens = record { present = header; order = omega arith; within = fits; enters = refl; ends = refl };
           begun = begun;
@@ -320,11 +337,11 @@ module _ (s : List ℕ) (st : State) (at end levels : ℕ) where
         nested of (good (record { present = omega arith; order = omega arith; within = fits; enters = refl; ends = refl }) none)))
 
     layer-stepped :
-        h .id ≡ 4 → Begun st → levels ≡ 1 → st .opened ≡ Layers → st .members .found < st .members .announced → layerSize ≤ h .total
+        areLengths h ≡ true → h .id ≡ 4 → Begun st → levels ≡ 1 → st .opened ≡ Layers → st .members .found < st .members .announced
         → Stepped (layerBlock s st (h .total) at level)
     unfolding layerBlock
-    layer-stepped id begun in-bank of-layers room long =
-        nest-stepped 4 layerSize _ _ _ id long (entered id refl) (λ _ j bad. a-layer's j begun in-bank of-layers bad) (λ opens good.
+    layer-stepped lengths id begun in-bank of-layers room =
+        nest-stepped 4 layerSize _ _ _ id (layer-total h lengths id) (entered lengths id refl) (λ _ j bad. a-layer's j begun in-bank of-layers bad) (λ opens good.
         a-layer (record {
           total = h .total;
           opens = opens;
@@ -338,10 +355,10 @@ module _ (s : List ℕ) (st : State) (at end levels : ℕ) where
         }))
 
     selection-stepped :
-        h .id ≡ 6 → Begun st → levels ≡ main → st .met .selection ≡ false → selectionSize ≤ h .total → Stepped (selectionBlock s st (h .total) at level)
+        areLengths h ≡ true → h .id ≡ 6 → Begun st → levels ≡ main → st .met .selection ≡ false → Stepped (selectionBlock s st (h .total) at level)
     unfolding selectionBlock
-    selection-stepped id begun top once long =
-        nest-stepped 6 selectionSize _ _ _ id long (entered id refl) (λ _ j bad. a-selection's j begun top bad) (λ opens good.
+    selection-stepped lengths id begun top once =
+        nest-stepped 6 selectionSize _ _ _ id (selection-total h lengths id) (entered lengths id refl) (λ _ j bad. a-selection's j begun top bad) (λ opens good.
         a-selection (record {
           total = h .total;
           opens = opens;
@@ -354,10 +371,10 @@ module _ (s : List ℕ) (st : State) (at end levels : ℕ) where
         }))
 
     alpha-bank-stepped :
-        h .id ≡ 7 → Begun st → levels ≡ main → st .met .alphas ≡ false → alphaBankSize ≤ h .total → Stepped (alphaBankBlock s st (h .total) at level)
+        areLengths h ≡ true → h .id ≡ 7 → Begun st → levels ≡ main → st .met .alphas ≡ false → Stepped (alphaBankBlock s st (h .total) at level)
     unfolding alphaBankBlock
-    alpha-bank-stepped id begun top once long =
-        nest-stepped 7 alphaBankSize _ _ _ id long (entered id refl) (λ _ j bad. let z : _≡_ {A = ℕ} 0 1 = cc in absurd (omega arith)) (λ opens _.
+    alpha-bank-stepped lengths id begun top once =
+        nest-stepped 7 alphaBankSize _ _ _ id (alpha-bank-total h lengths id) (entered lengths id refl) (λ _ j bad. let z : _≡_ {A = ℕ} 0 1 = cc in absurd (omega arith)) (λ opens _.
         an-alpha-bank (record {
           total = h .total;
           opens = opens;
@@ -369,11 +386,11 @@ module _ (s : List ℕ) (st : State) (at end levels : ℕ) where
         }))
 
     alpha-stepped :
-        h .id ≡ 8 → Begun st → levels ≡ 1 → st .opened ≡ Alphas → st .members .found < st .members .announced → alphaSize ≤ h .total
+        areLengths h ≡ true → h .id ≡ 8 → Begun st → levels ≡ 1 → st .opened ≡ Alphas → st .members .found < st .members .announced
         → Stepped (alphaBlock s st (h .total) at level)
     unfolding alphaBlock
-    alpha-stepped id begun in-bank of-alphas room long =
-        nest-stepped 8 alphaSize _ _ _ id long (entered id refl) (λ _ j bad. an-alpha's j begun in-bank of-alphas bad) (λ opens good.
+    alpha-stepped lengths id begun in-bank of-alphas room =
+        nest-stepped 8 alphaSize _ _ _ id (alpha-total h lengths id) (entered lengths id refl) (λ _ j bad. an-alpha's j begun in-bank of-alphas bad) (λ opens good.
         an-alpha (record {
           total = h .total;
           opens = opens;
@@ -386,9 +403,11 @@ module _ (s : List ℕ) (st : State) (at end levels : ℕ) where
           state = refl;
         }))
 
-    channel-stepped : h .id ≡ 5 → Begun st → isHost parent ≡ true → 0 < st .current .left → Stepped (channelBlock s st parent (h .total) at level)
+    channel-stepped :
+        areLengths h ≡ true → h .id ≡ 5 → Begun st → isHost parent ≡ true → 0 < st .current .left
+        → Stepped (channelBlock s st parent (h .total) at level)
     unfolding channelBlock channelCoded channelSized
-    channel-stepped id begun host room =
+    channel-stepped lengths id begun host room =
         unit-ind Stepped s chunkPlace channelSize _ (λ _. further blockHeaderSize refl) (λ there.
         let c = channelAt s chunkPlace in
         pick-ind Stepped _ _ _ (λ whole.
@@ -396,7 +415,7 @@ module _ (s : List ℕ) (st : State) (at end levels : ℕ) where
         pick-ind Stepped _ _ _ (λ waited.
         permitted-ind Stepped _ _ _ (λ _ bad. named (a-plane's (chunked id there) begun host room codes waited bad)) (λ plane.
         unit-ind Stepped s (at + channelHead) (c .stored) _ (λ _. further channelHead refl) (λ all.
-        leafed (entered id refl) (a-channel (record {
+        leafed (entered lengths id refl) (a-channel (record {
           chunk = c;
           is = refl;
           begun = begun;
@@ -420,21 +439,21 @@ module _ (s : List ℕ) (st : State) (at end levels : ℕ) where
     unfolding kindOf
     kind-stepped is t refused z surplus good = let x : _≡_ {A = ℕ} 0 1 = cc in absurd (omega arith)
     kind-stepped is t (skip begun unused) z surplus good = let x : _≡_ {A = ℕ} 0 1 = cc in absurd (omega arith)
-    kind-stepped is t (image none e) z surplus good = subst⁻¹ Stepped (ids.by-image _ _ _ _ _ _ _ _ _ e) (image-stepped e none (image-total h good e))
-    kind-stepped is (by-main top) (palette begun e once used) z surplus good = subst⁻¹ Stepped (ids.by-palette _ _ _ _ _ _ _ _ _ e) (palette-stepped e begun top once used)
-    kind-stepped is (by-main top) (bank begun e once) z surplus good = subst⁻¹ Stepped (ids.by-bank _ _ _ _ _ _ _ _ _ e) (bank-stepped e begun top once)
+    kind-stepped is t (image none e) z surplus good = subst⁻¹ Stepped (ids.by-image _ _ _ _ _ _ _ _ _ e) (image-stepped good e none)
+    kind-stepped is (by-main top) (palette begun e once used) z surplus good = subst⁻¹ Stepped (ids.by-palette _ _ _ _ _ _ _ _ _ e) (palette-stepped good e begun top once used)
+    kind-stepped is (by-main top) (bank begun e once) z surplus good = subst⁻¹ Stepped (ids.by-bank _ _ _ _ _ _ _ _ _ e) (bank-stepped good e begun top once)
     kind-stepped is (by-bank in-bank o) (layer begun e) z surplus good =
-        subst⁻¹ Stepped (ids.by-layer _ _ _ _ _ _ _ _ _ e) (layer-stepped e begun in-bank o (layer-room st (h .id) surplus e) (layer-total h good e))
+        subst⁻¹ Stepped (ids.by-layer _ _ _ _ _ _ _ _ _ e) (layer-stepped good e begun in-bank o (layer-room st (h .id) surplus e))
     kind-stepped is (by-main top) (selection begun e once) z surplus good =
-        subst⁻¹ Stepped (ids.by-selection _ _ _ _ _ _ _ _ _ e) (selection-stepped e begun top once (selection-total h good e))
+        subst⁻¹ Stepped (ids.by-selection _ _ _ _ _ _ _ _ _ e) (selection-stepped good e begun top once)
     kind-stepped is (by-main top) (alpha-bank begun e once) z surplus good =
-        subst⁻¹ Stepped (ids.by-alpha-bank _ _ _ _ _ _ _ _ _ e) (alpha-bank-stepped e begun top once (alpha-bank-total h good e))
+        subst⁻¹ Stepped (ids.by-alpha-bank _ _ _ _ _ _ _ _ _ e) (alpha-bank-stepped good e begun top once)
     kind-stepped is (by-alpha-bank in-bank o) (alpha begun e) z surplus good =
-        subst⁻¹ Stepped (ids.by-alpha _ _ _ _ _ _ _ _ _ e) (alpha-stepped e begun in-bank o (alpha-room st (h .id) surplus e) (alpha-total h good e))
+        subst⁻¹ Stepped (ids.by-alpha _ _ _ _ _ _ _ _ _ e) (alpha-stepped good e begun in-bank o (alpha-room st (h .id) surplus e))
     kind-stepped {p} is t (channel begun host e) z surplus good =
         subst⁻¹ Stepped (ids.by-channel _ _ _ _ _ _ _ _ _ e)
         (subst⁻¹ (λ (x : Parent). Stepped (channelBlock s st x (h .total) at level)) is
-        (channel-stepped e begun (subst (λ (x : Parent). isHost x ≡ true) is host) (channel-room st (h .id) surplus e)))
+        (channel-stepped good e begun (subst (λ (x : Parent). isHost x ≡ true) is host) (channel-room st (h .id) surplus e)))
 
     -- a block that is skipped
     passed-stepped : {p : Parent} {a : Placing} → Placed st (h .id) p a → a ≡ Skip → Stepped (skipBlock s st (h .id) (h .total) at level)
@@ -450,25 +469,25 @@ module _ (s : List ℕ) (st : State) (at end levels : ℕ) where
     passed-stepped (alpha begun e) z = let x : _≡_ {A = ℕ} 0 1 = cc in absurd (omega arith)
 
   placed-stepped :
-      levels ≤ main → at + blockHeaderSize ≤ length s → (h : BlockHeader) → h ≡ blockHeaderAt s at → (a : Placing) → Placed st (h .id) parent a
-      → Stepped (placedOf s st parent h a at end level)
+      levels ≤ main → at + blockHeaderSize ≤ length s → (h : BlockHeader) → h ≡ blockHeaderAt s at → isMarked h ≡ true → (a : Placing)
+      → Placed st (h .id) parent a → Stepped (placedOf s st parent h a at end level)
   unfolding placedOf
-  placed-stepped low header h same Refuse place = here refl
-  placed-stepped low header h same Enter place =
+  placed-stepped low header h same mark Refuse place = here refl
+  placed-stepped low header h same mark Enter place =
       pick-ind Stepped (isSurplus st (h .id)) _ _ (λ _. here refl) (λ surplus.
       pick-ind Stepped _ _ _ (λ good.
       let parts = both (areLengths h) (isInside h at end) good in
-      kind-stepped header h same (leb-true _ _ (parts .1)) refl (held (st .opened) levels low) place refl surplus (parts .0))
+      kind-stepped header h same mark (leb-true _ _ (parts .1)) refl (held (st .opened) levels low) place refl surplus (parts .0))
       (λ _. here refl))
-  placed-stepped low header h same Skip place =
-      pick-ind Stepped (isInside h at end) _ _ (λ good. passed-stepped header h same (leb-true _ _ good) place refl) (λ _. here refl)
+  placed-stepped low header h same mark Skip place =
+      pick-ind Stepped (isInside h at end) _ _ (λ good. passed-stepped header h same mark (leb-true _ _ good) place refl) (λ _. here refl)
 
   block-stepped : levels ≤ main → Stepped (blockAt s st at end levels)
   unfolding blockAt
   block-stepped low =
       unit-ind Stepped s at blockHeaderSize _ (λ _. here refl) (λ header.
       let h = blockHeaderOf (part s at blockHeaderSize) in
-      pick-ind Stepped _ _ _ (λ _. placed-stepped low header h refl _ (placed st (h .id) parent)) (λ _. here refl))
+      pick-ind Stepped _ _ _ (λ mark. placed-stepped low header h refl mark _ (placed st (h .id) parent)) (λ _. here refl))
 
   pub stepped : levels ≤ main → Stepped (stepAt s st at end levels)
   unfolding stepAt

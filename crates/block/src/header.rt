@@ -25,7 +25,7 @@ ghost use Rattle.kinds.specs.Blocks.{told};
 ghost use Rattle.block.specs.Step.{areLengths, kindOf, placedOf, blockAt, Roomy};
 
 // The lengths of a block that is entered, by its id.
-fn lengths(h: BlockHeader) -> bool
+pub fn lengths(h: BlockHeader) -> bool
     ensures { λ r. ⌜ r ≡ areLengths h ⌝ }
 {
     let id = h.id;

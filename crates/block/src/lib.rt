@@ -3,6 +3,7 @@ mod header;
 mod looking;
 
 pub use header::block;
+pub use header::lengths;
 pub use looking::Edge;
 pub use looking::edge_at;
 pub use looking::look;

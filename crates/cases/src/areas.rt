@@ -33,10 +33,9 @@ fn name_hash(c: AlphaChunk) -> u32 {
     hash::of_bytes(&name)
 }
 
-fn alpha_line(c: AlphaChunk) {
+pub fn alpha(c: AlphaChunk) {
     facts::mask(c.mask);
     printing::number(name_hash(c) as u64);
-    text(b"\n");
 }
 
 fn alpha_fields(payload: &[u8])
@@ -48,7 +47,8 @@ fn alpha_fields(payload: &[u8])
         endian::u32_at(payload, 4),
     );
     numbered(b"A", f.number);
-    alpha_line(f.alpha);
+    alpha(f.alpha);
+    text(b"\n");
 }
 
 pub fn alpha_facts(payload: &[u8]) {

@@ -7,6 +7,7 @@ mod facts;
 mod fields;
 mod hash;
 mod listed;
+mod places;
 mod planes;
 mod reader;
 mod tables;

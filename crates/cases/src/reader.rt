@@ -3,6 +3,7 @@ use crate::areas;
 use crate::bitmaps;
 use crate::fields::refuse;
 use crate::listed;
+use crate::places;
 use crate::planes;
 use crate::tables;
 use crate::values;
@@ -29,6 +30,7 @@ fn answer(kind: u8, payload: &[u8]) {
         b'S' => areas::selection_facts(payload),
         b'A' => areas::alpha_facts(payload),
         b'M' => areas::alpha_name(payload),
+        b'H' => places::place(payload),
         b'W' => tables::write(payload),
         b'R' => tables::read(payload),
         _ => refuse(b"?"),

@@ -105,11 +105,10 @@ fn ranges_hash(l: LayerChunk) -> u32 {
     hash::of_bytes(&ranges)
 }
 
-fn layer_line(l: LayerChunk) {
+pub fn layer(l: LayerChunk) {
     facts::layer(l);
     printing::number(name_hash(l) as u64);
     printing::number(ranges_hash(l) as u64);
-    text(b"\n");
 }
 
 fn layer_fields(payload: &[u8])
@@ -121,7 +120,8 @@ fn layer_fields(payload: &[u8])
         endian::u32_at(payload, 4),
     );
     numbered(b"Y", f.number);
-    layer_line(f.layer);
+    layer(f.layer);
+    text(b"\n");
 }
 
 pub fn layer_facts(payload: &[u8]) {

@@ -1,5 +1,5 @@
 -- Every listing: each entry is right by those before it, and an accepted file is complete. The views and the promises cite these.
-use mathlib.Core.Path.{_≡_, refl, sym, ap, _∙_}
+use mathlib.Core.Path.{_≡_, refl, sym, ap, subst⁻¹, _∙_}
 use mathlib.Core.Bool.{true, false}
 use mathlib.Core.List.{List}
 use Prim.Native.Nat.{ℕ, _<_}
@@ -18,7 +18,7 @@ use Rattle.walk.specs.Room.{Listed, cut}
 use Rattle.walk.proofs.Invariant.{cut-each, cut-finished}
 use Rattle.walk.proofs.Cut.{cut-ended}
 use Rattle.walk.proofs.Parents.{each-holds}
-use Rattle.headers.specs.BlockHeader.{blockHeaderAt}
+use Rattle.headers.specs.BlockHeader.{blockHeaderAt, isMarked}
 use Rattle.headers.specs.FileHeader.{fileHeaderSize}
 use Rattle.headers.specs.Places.{imagePlace}
 use Rattle.chunk.specs.Heads.{imageHead}
@@ -26,7 +26,7 @@ use Rattle.memory.specs.declared.parent.Parent.the-variants.{AlphaBank}
 use Rattle.memory.specs.declared.state.State.{State}
 use Rattle.memory.specs.Parent.{main}
 use Rattle.memory.specs.State.{start}
-use Rattle.block.specs.Step.{stepAt}
+use Rattle.block.specs.Step.{areLengths, stepAt}
 use Rattle.block.proofs.Owed.{moves}
 use Rattle.block.proofs.Stepped.{Stepped, leafed, nested, OfHeader}
 use Rattle.listing.specs.Listing.{headOf, beyond, listing, listed}
@@ -63,7 +63,9 @@ nest-headed (nested h i) = h
 
 of-header : {s : List ℕ} {st : State} {at end levels : ℕ} {e : Entry} → e .block .place ≡ at → OfHeader s st at end levels e → Headed s e
 of-header {s} {e} place h = record {
+  marked = subst⁻¹ (λ (p : ℕ). isMarked (blockHeaderAt s p) ≡ true) place (h .marked);
   named = h .named ∙ ap (λ (p : ℕ). blockHeaderAt s p .id) (sym place);
+  lengths = λ kept. subst⁻¹ (λ (p : ℕ). areLengths (blockHeaderAt s p) ≡ true) place (h .lengths kept);
   whole = λ skipped. h .whole skipped ∙ ap (λ (p : ℕ). blockHeaderAt s p .total) (sym place);
 }
 

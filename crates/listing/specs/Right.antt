@@ -19,7 +19,7 @@ use Rattle.entry.specs.declared.Code.{Code}
 use Rattle.entry.specs.declared.Entry.{Entry}
 use Rattle.entry.specs.Entry.{block, code, content, plain, ranked, filled, isKind}
 use Rattle.walk.specs.Parents.{holds, holder, rank, held, Of}
-use Rattle.headers.specs.BlockHeader.{blockHeaderSize, blockHeaderAt}
+use Rattle.headers.specs.BlockHeader.{blockHeaderSize, blockHeaderAt, isMarked}
 use Rattle.headers.specs.Places.{imagePlace, imageChunkPlace}
 use Rattle.attributes.specs.declared.fault.Fault.{Fault}
 use Rattle.attributes.specs.declared.fault.Fault.the-variants.{None}
@@ -40,6 +40,7 @@ use Rattle.chunk.specs.SelectionInformation.{selectionAt, selectionFault}
 use Rattle.memory.specs.declared.parent.Parent.{Parent}
 use Rattle.memory.specs.declared.parent.Parent.the-variants.{Main, Bank, Layer, Selection, AlphaBank, Alpha}
 use Rattle.memory.specs.Codes.{isExpected}
+use Rattle.block.specs.Step.{areLengths}
 
 -- ### Of entries
 
@@ -309,9 +310,12 @@ pub record Right (s : List ℕ) (before : List Entry) (e : Entry) : Type 0 where
   pub kind : (id : ℕ) → isKind id e ≡ true → RightAs id s before e
   pub skipped : e .block .skipped ≡ 1 → SkipRight s e
 
--- and it has the id of the header at its place, and all that this announces where it is skipped
+-- and the header at its place is marked and has its id; the lengths there are those of its kind, and of a skipped block all that is announced
+-- is content
 pub record Headed (s : List ℕ) (e : Entry) : Type 0 where
+  pub marked : isMarked (blockHeaderAt s (e .block .place)) ≡ true
   pub named : e .block .id ≡ blockHeaderAt s (e .block .place) .id
+  pub lengths : e .block .skipped ≡ 0 → areLengths (blockHeaderAt s (e .block .place)) ≡ true
   pub whole : e .block .skipped ≡ 1 → e .content .stored ≡ blockHeaderAt s (e .block .place) .total
 
 -- ### All entries of an accepted file

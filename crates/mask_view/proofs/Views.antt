@@ -7,7 +7,7 @@ use lib.ListN.{length}
 use denote.Ref.{now}
 use Rattle.laws.specs.Outcomes.{OneResult, OneFixed}
 use Rattle.laws.proofs.OneOutcome.{one}
-use Rattle.chunk.specs.AlphaInformation.{alphaAt}
+use Rattle.chunk.specs.AlphaInformation.{alphaSize, alphaAt}
 use Rattle.chunk.specs.SelectionInformation.{selectionAt}
 use Rattle.chunk.specs.Rules.{MaskRules}
 use Rattle.chunk.proofs.Rules.{mask-rules}
@@ -15,13 +15,17 @@ use Rattle.listing.specs.Listing.{listed}
 use Rattle.view.specs.declared.part.Part.{Part}
 use Rattle.view.specs.declared.sought.Sought.{Sought}
 use Rattle.view.specs.Asked.{shownOf}
-use Rattle.view.specs.Name.{nameAt}
-use Rattle.view.specs.Shown.{refusal}
 use Rattle.view.proofs.Asked.{refused-not-zero, sought-ind}
-use Rattle.view.proofs.Views.{seen, shown-one, named-lies}
+use Rattle.view.proofs.Here.{here-inside}
+use Rattle.view.proofs.Views.{seen, shown-one, name-of-lies}
 use Rattle.mask_view.specs.Facts.{noSelectionFacts, noAlphaFacts, selectionFacts, alphaFacts}
 use Rattle.mask_view.specs.Name.{alphaNameView}
-use Rattle.mask_view.proofs.Found.{selection-has, alpha-has}
+use Rattle.mask_view.specs.Sought.{alphaSought}
+use Rattle.mask_view.specs.At.{alphaHere, alphaNameViewAt}
+use Rattle.mask_view.proofs.Found.{selection-has, alpha-has, alpha-inside}
+use Rattle.mask_view.proofs.at.alpha_at.Reads as alpha-at
+use Rattle.mask_view.proofs.at.alpha_name_at.Reads as alpha-name-at
+use Rattle.mask_view.proofs.at.selection_at.Reads as selection-at
 use Rattle.mask_view.proofs.facts.selection_facts.Reads as selection-facts
 use Rattle.mask_view.proofs.facts.alpha_facts.Reads as alpha-facts
 use Rattle.mask_view.proofs.names.alpha_name_part.Reads as alpha-name-part
@@ -57,11 +61,11 @@ alpha-facts-one l a y z e f = one
 
 pub alpha-name-lies : (s : List ℕ) (room k : ℕ) → alphaNameView s room k .start + alphaNameView s room k .length ≤ length s
 unfolding alphaNameView
-alpha-name-lies s room k =
-    sought-ind s room 8 47 k (λ (x : Sought). let p = shownOf refusal (nameAt s) x in p .start + p .length ≤ length s)
-    (λ _ there. named-lies s _ (omega (arith, alpha-has s room k there .inside)))
-    (λ _. omega arith)
-    (λ _. omega arith)
+alpha-name-lies s room k = name-of-lies s (alphaSought s room k) (λ at e. omega (arith, alpha-inside s room k e))
+
+pub alpha-name-at-lies : (s : List ℕ) (place : ℕ) → alphaNameViewAt s place .start + alphaNameViewAt s place .length ≤ length s
+unfolding alphaNameViewAt
+alpha-name-at-lies s place = name-of-lies s (alphaHere s place) (λ at e. omega (arith, here-inside s place 8 alphaSize 47 at e))
 
 pub alpha-name-inside : (s : List ℕ) (room k : ℕ) (p : Part) → p ≡ alphaNameView s room k → p .start + p .length ≤ length s
 alpha-name-inside s room k p is = subst⁻¹ (λ (x : Part). x .start + x .length ≤ length s) is (alpha-name-lies s room k)
@@ -71,3 +75,14 @@ alpha-name-part-one l a y z e f = one
 
 pub alpha-name-one : OneFixed (λ l r e. seen (now (e .1 .1 .1 .0)) r) alpha-name.Learnt
 alpha-name-one l a y z e f = shown-one _ _ y z
+
+-- ### At a place
+
+pub selection-at-one : OneResult selection-at.Learnt
+selection-at-one l a y z e f = one
+
+pub alpha-at-one : OneResult alpha-at.Learnt
+alpha-at-one l a y z e f = one
+
+pub alpha-name-at-one : OneResult alpha-name-at.Learnt
+alpha-name-at-one l a y z e f = one

@@ -7,6 +7,7 @@ use Rattle.chunk.specs.declared.mask.Mask.{Mask}
 use Rattle.chunk.specs.declared.selection_information.SelectionChunk.{SelectionChunk}
 use Rattle.chunk.specs.AlphaInformation.{alphaAt}
 use Rattle.chunk.specs.SelectionInformation.{selectionAt}
+use Rattle.view.specs.declared.sought.Sought.{Sought}
 use Rattle.view.specs.Asked.{shownOf}
 use Rattle.view.specs.Zeros.{noArea}
 use Rattle.mask_view.specs.declared.facts.AlphaFacts.{AlphaFacts}
@@ -28,6 +29,13 @@ noSelectionFacts number = record { number = number; selection = noSelection }
 
 abbrev pub noAlphaFacts : ℕ → AlphaFacts
 noAlphaFacts number = record { number = number; alpha = noAlpha }
+
+-- of such a chunk, however it was sought
+abbrev pub selectionFactsOf : List ℕ → Sought → SelectionFacts
+selectionFactsOf s = shownOf noSelectionFacts (λ at. record { number = 0; selection = selectionAt s at })
+
+abbrev pub alphaFactsOf : List ℕ → Sought → AlphaFacts
+alphaFactsOf s = shownOf noAlphaFacts (λ at. record { number = 0; alpha = alphaAt s at })
 
 unfoldable pub selectionFacts : List ℕ → ℕ → SelectionFacts
 selectionFacts s room = shownOf noSelectionFacts (λ at. record { number = 0; selection = selectionAt s at }) (selectionSought s room)

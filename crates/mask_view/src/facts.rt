@@ -6,7 +6,10 @@ use chunk::selection_information::SelectionChunk;
 use view::Sought;
 use view::seek_chunk;
 ghost use mathlib.Core.Path.{_≡_};
-ghost use Rattle.mask_view.specs.Facts.{selectionFacts, alphaFacts};
+ghost use Rattle.chunk.specs.AlphaInformation.{alphaSize};
+ghost use Rattle.chunk.specs.SelectionInformation.{selectionSize};
+ghost use Rattle.view.specs.Asked.{Inside};
+ghost use Rattle.mask_view.specs.Facts.{selectionFacts, selectionFactsOf, alphaFacts, alphaFactsOf};
 
 #[repr(C)]
 pub struct SelectionFacts {
@@ -24,7 +27,16 @@ pub struct AlphaFacts {
 pub fn selection_facts(input: &[u8], room: usize) -> SelectionFacts
     ensures { λ r. ⌜ r ≡ selectionFacts (now (input .entry)) room ⌝ }
 {
-    match seek_chunk(input, room, 6, 46, 0) {
+    let sought = seek_chunk(input, room, 6, 46, 0);
+    selection_facts_of(input, sought)
+}
+
+// Of a selection's chunk, however it was sought.
+pub fn selection_facts_of(input: &[u8], sought: Sought) -> SelectionFacts
+    requires { ⌜ Inside selectionSize (now input) sought ⌝ }
+    ensures { λ r. ⌜ r ≡ selectionFactsOf (now (input .entry)) sought ⌝ }
+{
+    match sought {
         Sought::Refused(number) => SelectionFacts {
             number,
             selection: no_selection(),
@@ -40,7 +52,16 @@ pub fn selection_facts(input: &[u8], room: usize) -> SelectionFacts
 pub fn alpha_facts(input: &[u8], room: usize, k: u32) -> AlphaFacts
     ensures { λ r. ⌜ r ≡ alphaFacts (now (input .entry)) room k ⌝ }
 {
-    match seek_chunk(input, room, 8, 47, k) {
+    let sought = seek_chunk(input, room, 8, 47, k);
+    alpha_facts_of(input, sought)
+}
+
+// Of an alpha channel's chunk, however it was sought.
+pub fn alpha_facts_of(input: &[u8], sought: Sought) -> AlphaFacts
+    requires { ⌜ Inside alphaSize (now input) sought ⌝ }
+    ensures { λ r. ⌜ r ≡ alphaFactsOf (now (input .entry)) sought ⌝ }
+{
+    match sought {
         Sought::Refused(number) => AlphaFacts {
             number,
             alpha: no_alpha(),

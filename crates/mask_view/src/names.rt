@@ -1,7 +1,6 @@
 // The name of an alpha channel, shown where it stands in the input.
 use view::Part;
-use view::Sought;
-use view::named;
+use view::name_of;
 use view::seek_chunk;
 ghost use mathlib.Core.Path.{_≡_};
 ghost use Rattle.mask_view.specs.Name.{alphaNameView, AlphaNameShown};
@@ -10,10 +9,8 @@ ghost use Rattle.mask_view.specs.Name.{alphaNameView, AlphaNameShown};
 pub fn alpha_name_part(input: &[u8], room: usize, k: u32) -> Part
     ensures { λ r. ⌜ r ≡ alphaNameView (now (input .entry)) room k ⌝ }
 {
-    match seek_chunk(input, room, 8, 47, k) {
-        Sought::Refused(number) => Part::refusal(number),
-        Sought::At(at) => named(input, at),
-    }
+    let sought = seek_chunk(input, room, 8, 47, k);
+    name_of(input, sought)
 }
 
 // Shows that part; a refusal shows nothing, at the input's start.

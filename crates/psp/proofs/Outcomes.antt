@@ -14,6 +14,11 @@ use Rattle.laws.specs.Outcomes.{OneResult, OneOutcome}
 use Rattle.laws.proofs.OneOutcome.{one, result-one}
 use Rattle.entry.specs.declared.Entry.{Entry}
 use Rattle.psp.proofs.asked.psp_entry_at.Reads as entry-at
+use Rattle.psp.proofs.at.psp_alpha_at.Reads as alpha-at
+use Rattle.psp.proofs.at.psp_alpha_name_at.Reads as alpha-name-at
+use Rattle.psp.proofs.at.psp_layer_at.Reads as layer-at
+use Rattle.psp.proofs.at.psp_name_at.Reads as name-at
+use Rattle.psp.proofs.at.psp_selection_at.Reads as selection-at
 use Rattle.psp.proofs.filed.psp_read_table.Reads as read-table
 use Rattle.psp.proofs.filed.psp_write_table.Reads as write-table
 use Rattle.psp.proofs.placing.psp_intersect.Reads as intersect
@@ -113,6 +118,21 @@ psp-read-alpha-facts-one l a y z e f = one
 
 pub psp-alpha-name-one : OneResult alpha-name.Learnt
 psp-alpha-name-one l a y z e f = one
+
+pub psp-layer-at-one : OneResult layer-at.Learnt
+psp-layer-at-one l a y z e f = one
+
+pub psp-name-at-one : OneResult name-at.Learnt
+psp-name-at-one l a y z e f = one
+
+pub psp-selection-at-one : OneResult selection-at.Learnt
+psp-selection-at-one l a y z e f = one
+
+pub psp-alpha-at-one : OneResult alpha-at.Learnt
+psp-alpha-at-one l a y z e f = one
+
+pub psp-alpha-name-at-one : OneResult alpha-name-at.Learnt
+psp-alpha-name-at-one l a y z e f = one
 
 pub psp-dots-per-centimetre-one : OneResult dots.Learnt
 psp-dots-per-centimetre-one l a y z e f = one

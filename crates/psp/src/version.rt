@@ -3,8 +3,8 @@
 ghost use mathlib.Core.Path.{_≡_};
 ghost use Rattle.psp.specs.Version.{version};
 
-// 0.8.0: major times 10,000, minor times 100, patch.
-const VERSION: u32 = 800;
+// 0.9.0: major times 10,000, minor times 100, patch.
+const VERSION: u32 = 900;
 
 #[no_mangle]
 pub extern "C" fn psp_version() -> u32

@@ -1,5 +1,5 @@
 -- A caller may slice by the numbers that a view gives, since the part lies in its slice; and each view leaves one outcome.
-use mathlib.Core.Path.{_≡_, subst, subst⁻¹}
+use mathlib.Core.Path.{_≡_, refl, subst, subst⁻¹}
 use mathlib.Core.List.{List}
 use Prim.Native.Nat.{ℕ, _+_, _≤_}
 use native.Mathlib.Omega.{arith}
@@ -15,16 +15,23 @@ use Rattle.laws.proofs.OneOutcome.{one}
 use Rattle.laws.proofs.Part.{part-length}
 use Rattle.headers.specs.Places.{imageChunkPlace}
 use Rattle.attributes.specs.ImageAttributes.{imageAt}
+use Rattle.chunk.specs.LayerInformation.{layerSize}
 use Rattle.view.specs.declared.part.Part.{Part}
-use Rattle.view.specs.Asked.{paletteAsked, isThere, shownOf}
+use Rattle.view.specs.Asked.{paletteAsked, isThere, Inside, layerSought}
 use Rattle.view.specs.declared.sought.Sought.{Sought}
-use Rattle.view.specs.Name.{nameAt, nameView}
+use Rattle.view.specs.declared.sought.Sought.the-variants.{Refused, At}
+use Rattle.view.specs.At.{layerHere, nameViewAt}
+use Rattle.view.specs.Name.{nameAt, nameOf, nameView}
 use Rattle.view.specs.Palette.{paletteView, Shows, PaletteShown}
 use Rattle.view.specs.Shown.{refusal, Slice, PartOf, ShownAs}
-use Rattle.view.proofs.Accepted.{palette-has, layer-has}
-use Rattle.view.proofs.Asked.{accepted-ind, sought-ind}
+use Rattle.view.proofs.Accepted.{palette-has, layer-inside}
+use Rattle.view.proofs.Asked.{accepted-ind}
+use Rattle.view.proofs.Here.{here-inside}
 use Rattle.view.proofs.Place.{Same, taken, part-of, part-one}
 use Rattle.view.proofs.Zero.{zero-most}
+use Rattle.view.proofs.at.chunk_at.Reads as chunk-at
+use Rattle.view.proofs.at.layer_at.Reads as layer-at
+use Rattle.view.proofs.at.name_at.Reads as name-at
 use Rattle.view.proofs.facts.image_facts.Reads as image-facts
 use Rattle.view.proofs.facts.layer_facts.Reads as layer-facts
 use Rattle.view.proofs.layer_name.name.Reads as name
@@ -61,13 +68,18 @@ pub named-lies : (s : List ℕ) (at : ℕ) → at + 256 ≤ length s → nameAt 
 unfolding nameAt
 named-lies s at inside = omega (arith, zero-most (part s at 256), part-length s at 256 inside)
 
+-- however the chunk was sought
+pub name-of-lies : (s : List ℕ) (sought : Sought) → Inside 256 s sought → nameOf s sought .start + nameOf s sought .length ≤ length s
+name-of-lies s (Refused number) inside = omega arith
+name-of-lies s (At place) inside = named-lies s place (inside place refl)
+
 pub name-lies : (s : List ℕ) (room k : ℕ) → nameView s room k .start + nameView s room k .length ≤ length s
 unfolding nameView
-name-lies s room k =
-    sought-ind s room 4 45 k (λ (x : Sought). let p = shownOf refusal (nameAt s) x in p .start + p .length ≤ length s)
-    (λ _ there. named-lies s _ (omega (arith, layer-has s room k there .inside)))
-    (λ _. omega arith)
-    (λ _. omega arith)
+name-lies s room k = name-of-lies s (layerSought s room k) (λ at e. omega (arith, layer-inside s room k e))
+
+pub name-at-lies : (s : List ℕ) (place : ℕ) → nameViewAt s place .start + nameViewAt s place .length ≤ length s
+unfolding nameViewAt
+name-at-lies s place = name-of-lies s (layerHere s place) (λ at e. omega (arith, here-inside s place 4 layerSize 45 at e))
 
 -- ### What is fixed of a slice that is shown
 
@@ -140,3 +152,14 @@ layer-facts-one l a y z e f = one
 
 pub seek-chunk-one : OneResult seek-chunk.Learnt
 seek-chunk-one l a y z e f = one
+
+-- ### At a place
+
+pub chunk-at-one : OneResult chunk-at.Learnt
+chunk-at-one l a y z e f = one
+
+pub layer-at-one : OneResult layer-at.Learnt
+layer-at-one l a y z e f = one
+
+pub name-at-one : OneResult name-at.Learnt
+name-at-one l a y z e f = one

@@ -1,8 +1,10 @@
 -- What a view asks of the listing, and what all views have in common: any of them is refused alike, by the listing's own number first.
-use Prim.Native.Nat.{ℕ, _+_}
+use Prim.Native.Nat.{ℕ, _+_, _≤_}
+use mathlib.Core.Path.{_≡_}
 use mathlib.Core.Bool.{Bool}
 use mathlib.Core.List.{List}
 use lib.Dec.{ltb}
+use lib.ListN.{length}
 use Rattle.laws.specs.Choice.{pick}
 use Rattle.answer.specs.Answers.{answerNumber, isAccepted}
 use Rattle.headers.specs.BlockHeader.{blockHeaderSize}
@@ -46,6 +48,10 @@ chunkPlace q s room = asked q s room .entry .block .place + blockHeaderSize
 unfoldable pub chunkSought : List ℕ → ℕ → ℕ → ℕ → ℕ → Sought
 chunkSought s room id none k =
     ofAccepted Refused s room (pick (isThere (question id 0 k) s room) (At (chunkPlace (question id 0 k) s room)) (Refused none))
+
+-- where a chunk was found, so many bytes of it lie inside the input
+abbrev pub Inside : ℕ → List ℕ → Sought → Type 0
+Inside size s sought = (place : ℕ) → sought ≡ At place → place + size ≤ length s
 
 -- what is shown of a chunk by its place, or of a refusal by its number
 abbrev pub shownOf : {A : Type 0} → (ℕ → A) → (ℕ → A) → Sought → A

@@ -6,6 +6,7 @@ use Rattle.attributes.specs.ImageAttributes.{imageAt}
 use Rattle.chunk.specs.LayerInformation.{layerAt}
 use Rattle.view.specs.declared.facts.ImageFacts.{ImageFacts}
 use Rattle.view.specs.declared.facts.LayerFacts.{LayerFacts}
+use Rattle.view.specs.declared.sought.Sought.{Sought}
 use Rattle.view.specs.Asked.{ofAccepted, shownOf, layerSought}
 use Rattle.view.specs.Zeros.{noImage, noLayer}
 
@@ -18,6 +19,10 @@ noLayerFacts number = record { number = number; layer = noLayer }
 
 unfoldable pub imageFacts : List ℕ → ℕ → ImageFacts
 imageFacts s room = ofAccepted noImageFacts s room (record { number = 0; image = imageAt s imageChunkPlace })
+
+-- of a layer's chunk, however it was sought
+abbrev pub layerFactsOf : List ℕ → Sought → LayerFacts
+layerFactsOf s = shownOf noLayerFacts (λ at. record { number = 0; layer = layerAt s at })
 
 unfoldable pub layerFacts : List ℕ → ℕ → ℕ → LayerFacts
 layerFacts s room k = shownOf noLayerFacts (λ at. record { number = 0; layer = layerAt s at }) (layerSought s room k)

@@ -5,6 +5,7 @@ use lib.Dec.{eqb}
 use Rattle.laws.specs.Choice.{pick}
 use Rattle.laws.specs.Lists.{part}
 use Rattle.view.specs.declared.part.Part.{Part}
+use Rattle.view.specs.declared.sought.Sought.{Sought}
 use Rattle.view.specs.Asked.{shownOf, layerSought}
 use Rattle.view.specs.Shown.{ofInput, refusal, Slice, ShownAs}
 
@@ -16,6 +17,10 @@ beforeZero (b ∷ bs) = pick (eqb b 0) 0 (suc (beforeZero bs))
 -- a layer's chunk begins with its 256 name bytes, and so does an alpha channel's
 unfoldable pub nameAt : List ℕ → ℕ → Part
 nameAt s at = ofInput at (beforeZero (part s at 256))
+
+-- of a chunk that begins so, however it was sought
+abbrev pub nameOf : List ℕ → Sought → Part
+nameOf s = shownOf refusal (nameAt s)
 
 unfoldable pub nameView : List ℕ → ℕ → ℕ → Part
 nameView s room k = shownOf refusal (nameAt s) (layerSought s room k)

@@ -8,7 +8,9 @@ use chunk::layer_information::LayerChunk;
 use headers::block_header::BlockHeader;
 use headers::file_header::FileHeader;
 ghost use mathlib.Core.Path.{_≡_};
-ghost use Rattle.view.specs.Facts.{imageFacts, layerFacts};
+ghost use Rattle.chunk.specs.LayerInformation.{layerSize};
+ghost use Rattle.view.specs.Asked.{Inside};
+ghost use Rattle.view.specs.Facts.{imageFacts, layerFacts, layerFactsOf};
 
 // The image block comes first: its chunk stands behind the file header and its own header.
 pub const IMAGE: usize = FileHeader::SIZE + BlockHeader::SIZE;
@@ -47,7 +49,16 @@ pub fn image_facts(input: &[u8], room: usize) -> ImageFacts
 pub fn layer_facts(input: &[u8], room: usize, k: u32) -> LayerFacts
     ensures { λ r. ⌜ r ≡ layerFacts (now (input .entry)) room k ⌝ }
 {
-    match seek_chunk(input, room, 4, 45, k) {
+    let sought = seek_chunk(input, room, 4, 45, k);
+    layer_facts_of(input, sought)
+}
+
+// Of a layer's chunk, however it was sought.
+pub fn layer_facts_of(input: &[u8], sought: Sought) -> LayerFacts
+    requires { ⌜ Inside layerSize (now input) sought ⌝ }
+    ensures { λ r. ⌜ r ≡ layerFactsOf (now (input .entry)) sought ⌝ }
+{
+    match sought {
         Sought::Refused(number) => LayerFacts {
             number,
             layer: no_layer(),

@@ -2,8 +2,8 @@
 
 use std::os::raw::c_double;
 
-/// PSP_VERSION: 0.8.0, as major times 10,000, minor times 100, patch.
-pub const VERSION: u32 = 800;
+/// PSP_VERSION: 0.9.0, as major times 10,000, minor times 100, patch.
+pub const VERSION: u32 = 900;
 
 // Every function: all is well.
 pub const ACCEPTED: u32 = 0;
@@ -41,7 +41,7 @@ pub const CANVAS_WRONG: u32 = 40;
 pub const RECT_WRONG: u32 = 41;
 pub const PLANE_WRONG: u32 = 42;
 
-// Views.
+// Views, and facts at a place.
 pub const NO_PALETTE: u32 = 43;
 pub const NO_RAMP: u32 = 44;
 pub const NO_LAYER: u32 = 45;
@@ -358,6 +358,11 @@ extern "C" {
         -> SelectionFacts;
     pub fn psp_read_alpha_facts(input: *const u8, length: usize, room: usize, k: u32)
         -> AlphaFacts;
+    pub fn psp_layer_at(input: *const u8, length: usize, place: usize) -> LayerFacts;
+    pub fn psp_name_at(input: *const u8, length: usize, place: usize) -> Part;
+    pub fn psp_selection_at(input: *const u8, length: usize, place: usize) -> SelectionFacts;
+    pub fn psp_alpha_at(input: *const u8, length: usize, place: usize) -> AlphaFacts;
+    pub fn psp_alpha_name_at(input: *const u8, length: usize, place: usize) -> Part;
     pub fn psp_dots_per_centimetre(value: c_double, metric: u8) -> Dots;
 }
 

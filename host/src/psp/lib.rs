@@ -186,6 +186,38 @@ pub fn alpha_facts(input: &[u8], room: usize, k: u32) -> Result<AlphaChunk, Refu
     good(facts.number, facts.alpha)
 }
 
+/// Gives every field of the chunk of the layer whose header starts at a place, that of an entry of a
+/// listing, refused or not. Nothing is listed again. It is refused where no such header stands, good
+/// by itself and with its chunk inside the input; whether the block may stand there is not asked.
+pub fn layer_at(input: &[u8], place: usize) -> Result<LayerChunk, Refusal> {
+    let facts = numbers::layer_at(input, place);
+    good(facts.number, facts.layer)
+}
+
+/// Shows the name of that layer: its bytes before the first zero, or all 256.
+pub fn name_at(input: &[u8], place: usize) -> Result<&[u8], Refusal> {
+    let view = numbers::name_at(input, place);
+    good(view.number, view.bytes)
+}
+
+/// Gives every field of the chunk of the selection at a place, as [`layer_at`] does.
+pub fn selection_at(input: &[u8], place: usize) -> Result<SelectionChunk, Refusal> {
+    let facts = numbers::selection_at(input, place);
+    good(facts.number, facts.selection)
+}
+
+/// Gives every field of the chunk of the alpha channel at a place, as [`layer_at`] does.
+pub fn alpha_at(input: &[u8], place: usize) -> Result<AlphaChunk, Refusal> {
+    let facts = numbers::alpha_at(input, place);
+    good(facts.number, facts.alpha)
+}
+
+/// Shows the name of that alpha channel, likewise.
+pub fn alpha_name_at(input: &[u8], place: usize) -> Result<&[u8], Refusal> {
+    let view = numbers::alpha_name_at(input, place);
+    good(view.number, view.bytes)
+}
+
 /// Gives the dots per centimetre of a resolution, where there are any.
 pub fn dots_per_centimetre(value: f64, metric: u8) -> Option<f64> {
     let dots = numbers::dots_per_centimetre(value, metric);

@@ -185,6 +185,39 @@ pub fn alpha_facts(input: &[u8], room: usize, k: u32) -> AlphaFacts {
     unsafe { ffi::psp_read_alpha_facts(input.as_ptr(), input.len(), room, k) }
 }
 
+/// Gives every field of the chunk of the layer whose header starts at a place that a listing gave;
+/// nothing is listed again.
+pub fn layer_at(input: &[u8], place: usize) -> LayerFacts {
+    // SAFETY: the slice is valid for its length, and nothing is written.
+    unsafe { ffi::psp_layer_at(input.as_ptr(), input.len(), place) }
+}
+
+/// Shows the name of that layer: its bytes before the first zero, or all 256.
+pub fn name_at(input: &[u8], place: usize) -> View<'_> {
+    // SAFETY: the slice is valid for its length, and nothing is written.
+    let part = unsafe { ffi::psp_name_at(input.as_ptr(), input.len(), place) };
+    view(input, part)
+}
+
+/// Gives every field of the chunk of the selection at such a place.
+pub fn selection_at(input: &[u8], place: usize) -> SelectionFacts {
+    // SAFETY: the slice is valid for its length, and nothing is written.
+    unsafe { ffi::psp_selection_at(input.as_ptr(), input.len(), place) }
+}
+
+/// Gives every field of the chunk of the alpha channel at such a place.
+pub fn alpha_at(input: &[u8], place: usize) -> AlphaFacts {
+    // SAFETY: the slice is valid for its length, and nothing is written.
+    unsafe { ffi::psp_alpha_at(input.as_ptr(), input.len(), place) }
+}
+
+/// Shows the name of that alpha channel, likewise.
+pub fn alpha_name_at(input: &[u8], place: usize) -> View<'_> {
+    // SAFETY: the slice is valid for its length, and nothing is written.
+    let part = unsafe { ffi::psp_alpha_name_at(input.as_ptr(), input.len(), place) };
+    view(input, part)
+}
+
 /// Gives the dots per centimetre of a resolution, where there are any.
 pub fn dots_per_centimetre(value: f64, metric: u8) -> Dots {
     // SAFETY: only values travel.

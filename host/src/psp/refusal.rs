@@ -75,9 +75,10 @@ refusals! {
     PlaneWrong, PLANE_WRONG, "a row or a plane that is not the rectangle's";
     NoPalette, NO_PALETTE, "depth 24";
     NoRamp, NO_RAMP, "a ramp of another length than 1,024 would have to stand in";
-    NoLayer, NO_LAYER, "k is past the last layer";
-    NoSelection, NO_SELECTION, "no selection";
-    NoAlpha, NO_ALPHA, "k is past the last alpha channel";
+    NoLayer, NO_LAYER, "k is past the last layer, or no layer stands at the place";
+    NoSelection, NO_SELECTION, "no selection, or none at the place";
+    NoAlpha, NO_ALPHA,
+        "k is past the last alpha channel, or none stands at the place";
     SavedLength, SAVED_LENGTH,
         "a length that is not the file's, or that four bytes cannot say";
     SavedVersion, SAVED_VERSION, "another version of a saved table";

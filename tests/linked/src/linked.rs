@@ -151,6 +151,26 @@ fn selection_chunk(area: &ffi::Area, bitmaps: u16, channels: u16) -> SelectionCh
     }
 }
 
+fn selection(facts: numbers::SelectionFacts) -> (u32, SelectionChunk) {
+    let ffi::SelectionChunk {
+        area,
+        bitmaps,
+        channels,
+    } = facts.selection;
+    (facts.number, selection_chunk(&area, bitmaps, channels))
+}
+
+fn alpha(facts: numbers::AlphaFacts) -> (u32, AlphaChunk) {
+    let ffi::AlphaChunk {
+        name,
+        area,
+        bitmaps,
+        channels,
+    } = facts.alpha;
+    let area = selection_chunk(&area, bitmaps, channels);
+    (facts.number, AlphaChunk { name, area })
+}
+
 /// The numbers of a part, which a slice would not show; the slice has to be what
 /// they say.
 fn name(part: ffi::Part, shown: &[u8], input: &[u8]) -> (u32, u64, u64) {
@@ -265,31 +285,44 @@ impl Library for Linked {
     }
 
     fn selection_facts(&self, input: &[u8], room: usize) -> (u32, SelectionChunk) {
-        let facts = numbers::selection_facts(input, room);
-        let ffi::SelectionChunk {
-            area,
-            bitmaps,
-            channels,
-        } = facts.selection;
-        (facts.number, selection_chunk(&area, bitmaps, channels))
+        selection(numbers::selection_facts(input, room))
     }
 
     fn alpha_facts(&self, input: &[u8], room: usize, k: u32) -> (u32, AlphaChunk) {
-        let facts = numbers::alpha_facts(input, room, k);
-        let ffi::AlphaChunk {
-            name,
-            area,
-            bitmaps,
-            channels,
-        } = facts.alpha;
-        let area = selection_chunk(&area, bitmaps, channels);
-        (facts.number, AlphaChunk { name, area })
+        alpha(numbers::alpha_facts(input, room, k))
     }
 
     fn alpha_name(&self, input: &[u8], room: usize, k: u32) -> (u32, u64, u64) {
         // SAFETY: the slice is valid for its length, and nothing is written.
         let part = unsafe { ffi::psp_alpha_name(input.as_ptr(), input.len(), room, k) };
         name(part, numbers::alpha_name(input, room, k).bytes, input)
+    }
+
+    fn layer_at(&self, input: &[u8], place: u64) -> (u32, LayerChunk) {
+        let facts = numbers::layer_at(input, place as usize);
+        (facts.number, layer_chunk(&facts.layer))
+    }
+
+    fn name_at(&self, input: &[u8], place: u64) -> (u32, u64, u64) {
+        let place = place as usize;
+        // SAFETY: the slice is valid for its length, and nothing is written.
+        let part = unsafe { ffi::psp_name_at(input.as_ptr(), input.len(), place) };
+        name(part, numbers::name_at(input, place).bytes, input)
+    }
+
+    fn selection_at(&self, input: &[u8], place: u64) -> (u32, SelectionChunk) {
+        selection(numbers::selection_at(input, place as usize))
+    }
+
+    fn alpha_at(&self, input: &[u8], place: u64) -> (u32, AlphaChunk) {
+        alpha(numbers::alpha_at(input, place as usize))
+    }
+
+    fn alpha_name_at(&self, input: &[u8], place: u64) -> (u32, u64, u64) {
+        let place = place as usize;
+        // SAFETY: the slice is valid for its length, and nothing is written.
+        let part = unsafe { ffi::psp_alpha_name_at(input.as_ptr(), input.len(), place) };
+        name(part, numbers::alpha_name_at(input, place).bytes, input)
     }
 
     fn dots(&self, resolution: Resolution) -> Option<f64> {

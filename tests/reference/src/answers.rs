@@ -70,6 +70,7 @@ fn answer_of_selections(library: &dyn Library, case: &Case) -> Answer {
         Case::AlphaName { room, k, input } => {
             name('M', library.alpha_name(input, *room as usize, *k), input)
         }
+        Case::Place { place, input } => standing(library, *place, input),
         _ => answer_without_file(library, case),
     }
 }
@@ -263,6 +264,26 @@ fn name(kind: char, (number, start, length): (u32, u64, u64), input: &[u8]) -> A
     let shown = shown(number, input, start, length);
     let line = format!("{} {} {} {}{}", kind, number, start, length, shown);
     numbered(number, line)
+}
+
+/// All that is read at a place, each behind the letter of its view; 0 if anything
+/// stands there.
+fn standing(library: &dyn Library, place: u64, input: &[u8]) -> Answer {
+    let (layer, chunk) = library.layer_at(input, place);
+    let (selection, area) = library.selection_at(input, place);
+    let (alpha, named) = library.alpha_at(input, place);
+    let part = |kind, (number, start, length): (u32, u64, u64)| {
+        format!("{} {} {} {}", kind, number, start, length)
+    };
+    let lines = [
+        layer_line(layer, &chunk),
+        part('N', library.name_at(input, place)),
+        area_line('S', selection, &area),
+        alpha_line(alpha, &named),
+        part('M', library.alpha_name_at(input, place)),
+    ];
+    let number = layer.min(selection).min(alpha);
+    numbered(number, format!("H {}", lines.join(" ")))
 }
 
 fn shown(number: u32, lent: &[u8], start: u64, length: u64) -> String {

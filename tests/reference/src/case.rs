@@ -112,6 +112,11 @@ pub enum Case {
         k: u32,
         input: Vec<u8>,
     },
+    /// Facts and names of whatever stands at a place.
+    Place {
+        place: u64,
+        input: Vec<u8>,
+    },
     Dots {
         bits: u64,
         metric: u8,
@@ -145,6 +150,7 @@ impl Case {
             Case::SelectionFacts { .. } => b'S',
             Case::AlphaFacts { .. } => b'A',
             Case::AlphaName { .. } => b'M',
+            Case::Place { .. } => b'H',
             Case::Dots { .. } => b'D',
             Case::WriteTable { .. } => b'W',
             Case::ReadTable { .. } => b'R',
@@ -163,6 +169,7 @@ impl Case {
             | Case::LayerName { room, k, input }
             | Case::AlphaFacts { room, k, input }
             | Case::AlphaName { room, k, input } => to.u32(*room).u32(*k).string(input),
+            Case::Place { place, input } => to.u64(*place).string(input),
             Case::Intersection { one, other } => to.rectangle(one).rectangle(other),
             Case::Dots { bits, metric } => to.u64(*bits).u8(*metric),
             Case::WriteTable {
@@ -202,7 +209,7 @@ impl Case {
     pub fn decode(kind: u8, payload: &[u8]) -> Option<Case> {
         let mut from = Taker { rest: payload };
         let case = match kind {
-            b'P' | b'U' | b'K' | b'C' | b'I' | b'D' => Case::of_parts(kind, &mut from)?,
+            b'H' | b'P' | b'U' | b'K' | b'C' | b'I' | b'D' => Case::of_parts(kind, &mut from)?,
             b'W' | b'R' => Case::of_saved(kind, &mut from)?,
             _ => Case::of_file(kind, &mut from)?,
         };
@@ -256,6 +263,10 @@ impl Case {
     /// the written order, which is the payload's.
     fn of_parts(kind: u8, from: &mut Taker) -> Option<Case> {
         Some(match kind {
+            b'H' => Case::Place {
+                place: from.u64()?,
+                input: from.string()?,
+            },
             b'P' => Case::Plane {
                 stored: from.stored()?,
                 destination: from.u32()?,

@@ -16,6 +16,7 @@ pub mod many;
 pub mod named;
 mod packing;
 mod pictures;
+pub mod places;
 mod planes;
 mod products;
 mod rectangles;
@@ -40,7 +41,7 @@ use crate::write::Picture;
 /// Longest input of a case.
 pub const INPUT_LIMIT: usize = 60_000;
 
-/// One case in so many is systematic: 210,000 cases hold all of them.
+/// One case in so many is systematic: 213,000 cases hold all of them.
 const SYSTEMATIC_EVERY: u64 = 2;
 
 /// All systematic cases, each once; no seed changes them.
@@ -53,6 +54,7 @@ pub fn systematic() -> Vec<Case> {
     forms::all(&mut cases);
     named::all(&mut cases);
     alphas::all(&mut cases);
+    places::all(&mut cases);
     beginnings::all(&mut cases);
     channels::all(&mut cases);
     streams::all(&mut cases);
@@ -95,7 +97,7 @@ pub fn generate(
 }
 
 fn any(random: &mut Random) -> Case {
-    match random.below(105) {
+    match random.below(110) {
         0..=29 => listing(random),
         30..=37 => planes::plane(random),
         38..=42 => plane_of_file(random),
@@ -106,6 +108,7 @@ fn any(random: &mut Random) -> Case {
         73..=78 => palette_view(random),
         turn @ 79..=97 => facts(random, turn),
         98..=99 => values::dots(random),
+        105..=109 => places::any(random),
         _ => saved::any(random),
     }
 }

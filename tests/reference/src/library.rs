@@ -35,6 +35,13 @@ pub trait Library {
     fn alpha_facts(&self, input: &[u8], room: usize, k: u32) -> (u32, AlphaChunk);
     /// Number, start and length.
     fn alpha_name(&self, input: &[u8], room: usize, k: u32) -> (u32, u64, u64);
+    fn layer_at(&self, input: &[u8], place: u64) -> (u32, LayerChunk);
+    /// Number, start and length.
+    fn name_at(&self, input: &[u8], place: u64) -> (u32, u64, u64);
+    fn selection_at(&self, input: &[u8], place: u64) -> (u32, SelectionChunk);
+    fn alpha_at(&self, input: &[u8], place: u64) -> (u32, AlphaChunk);
+    /// Number, start and length.
+    fn alpha_name_at(&self, input: &[u8], place: u64) -> (u32, u64, u64);
     fn dots(&self, resolution: Resolution) -> Option<f64>;
     /// Number and length.
     fn write_table(&self, table: &[u32], destination: &mut [u8]) -> (u32, u64);
@@ -138,6 +145,28 @@ impl Library for Reference {
 
     fn alpha_name(&self, input: &[u8], room: usize, k: u32) -> (u32, u64, u64) {
         let (number, (start, length)) = numbered(views::alpha_name(input, room, u64::from(k)));
+        (number, start, length)
+    }
+
+    fn layer_at(&self, input: &[u8], place: u64) -> (u32, LayerChunk) {
+        numbered(views::layer_at(input, place))
+    }
+
+    fn name_at(&self, input: &[u8], place: u64) -> (u32, u64, u64) {
+        let (number, (start, length)) = numbered(views::name_at(input, place));
+        (number, start, length)
+    }
+
+    fn selection_at(&self, input: &[u8], place: u64) -> (u32, SelectionChunk) {
+        numbered(views::selection_at(input, place))
+    }
+
+    fn alpha_at(&self, input: &[u8], place: u64) -> (u32, AlphaChunk) {
+        numbered(views::alpha_at(input, place))
+    }
+
+    fn alpha_name_at(&self, input: &[u8], place: u64) -> (u32, u64, u64) {
+        let (number, (start, length)) = numbered(views::alpha_name_at(input, place));
         (number, start, length)
     }
 

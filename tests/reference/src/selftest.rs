@@ -8,6 +8,7 @@ mod known;
 mod listing;
 mod named;
 mod pencil;
+mod places;
 mod planes;
 mod saved;
 mod spoiled;
@@ -34,6 +35,7 @@ pub fn report() -> bool {
     forms::all(&mut checks);
     views::all(&mut checks);
     alphas::all(&mut checks);
+    places::all(&mut checks);
     spoiled::all(&mut checks);
     let compared = cases::systematic();
     named::all(&mut checks, &compared);

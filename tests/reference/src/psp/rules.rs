@@ -39,7 +39,7 @@ pub struct Step {
 
 /// What the place rules make of a block.
 #[derive(Clone, Copy, PartialEq, Eq)]
-enum Treatment {
+pub enum Treatment {
     Image,
     Palette,
     Bank,
@@ -53,7 +53,7 @@ enum Treatment {
 
 impl Treatment {
     /// Whether the header's lengths are those of the kind.
-    fn has_lengths(self, initial: u32, total: u32) -> bool {
+    pub fn has_lengths(self, initial: u32, total: u32) -> bool {
         match self {
             Treatment::Image => initial == 38 && total == 38,
             Treatment::Palette => initial == 4 && total >= 4,

@@ -1,10 +1,13 @@
 //! What is read from an accepted input: the palette view, the image facts, the
 //! facts and the name of layer k and of alpha channel k, the facts of the
 //! selection. Each lists the input first, with a room for that many entries,
-//! and passes the listing's own number on.
+//! and passes the listing's own number on. Facts and names at a header's place
+//! list nothing.
 
+use super::chunks::MARK;
 use super::chunks::{AlphaChunk, BlockHeader, FileHeader, ImageChunk, LayerChunk, SelectionChunk};
 use super::listing::{list, Entry, ALPHA_CHANNEL, LAYER, PALETTE, SELECTION};
+use super::rules::Treatment;
 use super::{number, part, RAMP_LENGTH};
 
 /// Which lent slice a palette view shows a part of.
@@ -78,24 +81,28 @@ pub fn image_facts(input: &[u8], room: usize) -> Result<ImageChunk, u32> {
 /// A kind of block whose chunk is shown, and the number for there being none.
 struct Shown {
     id: u16,
+    treatment: Treatment,
     size: u64,
     missing: u32,
 }
 
 const SHOWN_LAYER: Shown = Shown {
     id: LAYER,
+    treatment: Treatment::Layer,
     size: LayerChunk::SIZE,
     missing: number::NO_SUCH_LAYER,
 };
 
 const SHOWN_SELECTION: Shown = Shown {
     id: SELECTION,
+    treatment: Treatment::Selection,
     size: SelectionChunk::SIZE,
     missing: number::NO_SELECTION,
 };
 
 const SHOWN_ALPHA: Shown = Shown {
     id: ALPHA_CHANNEL,
+    treatment: Treatment::Alpha,
     size: AlphaChunk::SIZE,
     missing: number::NO_SUCH_ALPHA,
 };
@@ -139,5 +146,43 @@ pub fn alpha_facts(input: &[u8], room: usize, k: u64) -> Result<AlphaChunk, u32>
 /// first field of its chunk too.
 pub fn alpha_name(input: &[u8], room: usize, k: u64) -> Result<(u64, u64), u32> {
     let (chunk, start) = chunk(input, room, &SHOWN_ALPHA, k)?;
+    Ok((start, AlphaChunk::decode(chunk).name_length() as u64))
+}
+
+/// The chunk of a block of a kind whose header stands at a place, and its start;
+/// none where the header is another or wrong, or the chunk is not whole.
+fn stands<'a>(input: &'a [u8], place: u64, kind: &Shown) -> Option<(&'a [u8], u64)> {
+    let header = BlockHeader::decode(part(input, place, BlockHeader::SIZE)?);
+    let start = place + BlockHeader::SIZE;
+    let chunk = part(input, start, kind.size)?;
+    let BlockHeader { initial, total, .. } = header;
+    let good = header.mark == MARK && header.id == kind.id;
+    let good = good && kind.treatment.has_lengths(initial, total);
+    good.then_some((chunk, start))
+}
+
+fn chunk_at<'a>(input: &'a [u8], place: u64, kind: &Shown) -> Result<(&'a [u8], u64), u32> {
+    stands(input, place, kind).ok_or(kind.missing)
+}
+
+pub fn layer_at(input: &[u8], place: u64) -> Result<LayerChunk, u32> {
+    chunk_at(input, place, &SHOWN_LAYER).map(|(chunk, _)| LayerChunk::decode(chunk))
+}
+
+pub fn name_at(input: &[u8], place: u64) -> Result<(u64, u64), u32> {
+    let (chunk, start) = chunk_at(input, place, &SHOWN_LAYER)?;
+    Ok((start, LayerChunk::decode(chunk).name_length() as u64))
+}
+
+pub fn selection_at(input: &[u8], place: u64) -> Result<SelectionChunk, u32> {
+    chunk_at(input, place, &SHOWN_SELECTION).map(|(chunk, _)| SelectionChunk::decode(chunk))
+}
+
+pub fn alpha_at(input: &[u8], place: u64) -> Result<AlphaChunk, u32> {
+    chunk_at(input, place, &SHOWN_ALPHA).map(|(chunk, _)| AlphaChunk::decode(chunk))
+}
+
+pub fn alpha_name_at(input: &[u8], place: u64) -> Result<(u64, u64), u32> {
+    let (chunk, start) = chunk_at(input, place, &SHOWN_ALPHA)?;
     Ok((start, AlphaChunk::decode(chunk).name_length() as u64))
 }

@@ -10,8 +10,8 @@ use crate::psp::listing::ENTRY_NUMBERS;
 use crate::random::Random;
 
 pub fn all(checks: &mut Checks, systematic: &[Case]) {
-    let few_enough = systematic.len() <= 105_000;
-    checks.that("210,000 cases hold all systematic ones", few_enough);
+    let few_enough = systematic.len() <= 106_500;
+    checks.that("213,000 cases hold all systematic ones", few_enough);
     let family = || cases::family(&mut Random::new(7), 20);
     checks.that("the same family again", family() == family());
     edges(checks);
@@ -86,6 +86,7 @@ fn sizes(case: &Case) -> (u32, usize, u32) {
         | Case::SelectionFacts { room, input }
         | Case::AlphaFacts { room, input, .. }
         | Case::AlphaName { room, input, .. } => (*room, input.len(), 0),
+        Case::Place { input, .. } => (0, input.len(), 0),
         Case::Plane {
             input, destination, ..
         } => (0, input.len(), *destination),

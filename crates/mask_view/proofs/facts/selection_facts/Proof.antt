@@ -1,29 +1,16 @@
-use mathlib.Core.Path.{sym, _∙_}
+use mathlib.Core.Path.{sym, ap, _∙_}
 use borrow.Author.Needs.{needs}
-use Rattle.mask_view.specs.Facts.{selectionFacts}
+use Rattle.mask_view.specs.Facts.{selectionFacts, selectionFactsOf}
 use Rattle.mask_view.proofs.Found.{selection-inside}
 use Rattle.mask_view.proofs.facts.selection_facts.Statement.{statement}
 use Rattle.mask_view.proofs.facts.selection_facts.Tie as tie
 
-decode-requires : tie.Need-decode-requires
-decode-requires c κs = selection-inside _ _ (sym (c .before .before .before .seek-chunk .ensures) ∙ c .before .at .given .1)
+selection-facts-of-requires : tie.Need-selection-facts-of-requires
+selection-facts-of-requires c κs at e = selection-inside _ _ (sym (c .seek-chunk .ensures) ∙ e)
 
 returns : tie.Need-returns
 unfolding selectionFacts
-returns c = rw (← c .before .before .before .before .seek-chunk .ensures, c .before .before .number .given .1) (cc)
-
-returns-2 : tie.Need-returns-2
-unfolding selectionFacts
-returns-2 c = rw (← c .before .before .before .before .seek-chunk .ensures, c .before .before .at .given .1) (cc)
+returns c = c .selection-facts-of .ensures ∙ ap (selectionFactsOf _) (c .before .seek-chunk .ensures)
 
 pub selection-facts-spec : {M : Type 1} → statement M
-selection-facts-spec =
-    tie.close
-    (tie.spec
-    (λ c κs. search needs)
-    (λ c. search needs)
-    (λ c κs. search needs)
-    (λ c. search needs)
-    decode-requires
-    returns
-    returns-2)
+selection-facts-spec = tie.close (tie.spec (λ c κs. search needs) selection-facts-of-requires returns)

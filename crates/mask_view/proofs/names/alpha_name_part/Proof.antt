@@ -1,31 +1,18 @@
-use mathlib.Core.Path.{sym, _∙_}
+use mathlib.Core.Path.{sym, ap, _∙_}
 use native.Mathlib.Omega.{arith}
 use borrow.Author.Needs.{needs}
+use Rattle.view.specs.Name.{nameOf}
 use Rattle.mask_view.specs.Name.{alphaNameView}
 use Rattle.mask_view.proofs.Found.{alpha-inside}
 use Rattle.mask_view.proofs.names.alpha_name_part.Statement.{statement}
 use Rattle.mask_view.proofs.names.alpha_name_part.Tie as tie
 
-named-requires : tie.Need-named-requires
-named-requires c κs =
-    omega (arith, alpha-inside _ _ _ (sym (c .before .before .before .seek-chunk .ensures) ∙ c .before .at .given .1))
+name-of-requires : tie.Need-name-of-requires
+name-of-requires c κs at e = omega (arith, alpha-inside _ _ _ (sym (c .seek-chunk .ensures) ∙ e))
 
 returns : tie.Need-returns
 unfolding alphaNameView
-returns c = rw (← c .before .before .before .before .seek-chunk .ensures, c .before .before .number .given .1) (c .refusal .ensures)
-
-returns-2 : tie.Need-returns-2
-unfolding alphaNameView
-returns-2 c = rw (← c .before .before .before .before .seek-chunk .ensures, c .before .before .at .given .1) (c .named .ensures)
+returns c = c .name-of .ensures ∙ ap (nameOf _) (c .before .seek-chunk .ensures)
 
 pub alpha-name-part-spec : {M : Type 1} → statement M
-alpha-name-part-spec =
-    tie.close
-    (tie.spec
-    (λ c κs. search needs)
-    (λ c. search needs)
-    (λ c κs. search needs)
-    (λ c. search needs)
-    named-requires
-    returns
-    returns-2)
+alpha-name-part-spec = tie.close (tie.spec (λ c κs. search needs) name-of-requires returns)
