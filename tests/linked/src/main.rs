@@ -1,9 +1,10 @@
 //! Compares the library, linked through its C boundary, with the reference in
 //! one process: the generator's cases of all kinds, listings into records and
 //! counts besides, cases too large for the generator, every packet at every place
-//! near an end, tables too long to be saved, and entries asked for behind very many
-//! blocks. Then what clipping and placing owe, of the library alone. By other words:
-//! listings only, or sheets as large as they may be.
+//! near an end, every change of plain blocks, tables too long to be saved, and
+//! entries asked for behind very many blocks. Then what clipping and placing owe, of
+//! the library alone. By other words: listings only, or sheets as large as they may
+//! be.
 
 mod large;
 mod linked;
@@ -67,6 +68,7 @@ fn all(seed: u64, count: u64) -> io::Result<bool> {
     };
     large::each(&mut each);
     cases::edges::every(&mut each);
+    cases::plain::every(&mut each);
     result?;
     longest_tables(&mut comparison)?;
     many::compare(&mut comparison)?;

@@ -17,6 +17,7 @@ pub mod named;
 mod packing;
 mod pictures;
 pub mod places;
+pub mod plain;
 mod planes;
 mod products;
 mod rectangles;
@@ -41,8 +42,9 @@ use crate::write::Picture;
 /// Longest input of a case.
 pub const INPUT_LIMIT: usize = 60_000;
 
-/// One case in so many is systematic: 213,000 cases hold all of them.
-const SYSTEMATIC_EVERY: u64 = 2;
+/// Every other one of so many cases is systematic, the first and the last too:
+/// 228,000 cases hold all of them.
+const GROUP: u64 = 15;
 
 /// All systematic cases, each once; no seed changes them.
 pub fn systematic() -> Vec<Case> {
@@ -59,6 +61,7 @@ pub fn systematic() -> Vec<Case> {
     channels::all(&mut cases);
     streams::all(&mut cases);
     edges::all(&mut cases);
+    plain::all(&mut cases);
     planes::all(&mut cases);
     packing::all(&mut cases);
     canvases::all(&mut cases);
@@ -82,9 +85,11 @@ pub fn generate(
     let mut systematic = systematic();
     random.shuffle(&mut systematic);
     for index in 0..count {
-        if index % SYSTEMATIC_EVERY == 0 {
-            let turn = (index / SYSTEMATIC_EVERY) as usize % systematic.len();
-            give(&systematic[turn], &systematic[turn])?;
+        let (group, at) = (index / GROUP, index % GROUP);
+        if at % 2 == 0 {
+            let turn = group * (GROUP + 1) / 2 + at / 2;
+            let case = &systematic[turn as usize % systematic.len()];
+            give(case, case)?;
         } else if random.one_in(11) {
             let (case, before) = spoiled::any(&mut random);
             give(&case, &before)?;

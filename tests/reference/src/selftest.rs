@@ -9,6 +9,7 @@ mod listing;
 mod named;
 mod pencil;
 mod places;
+mod plain;
 mod planes;
 mod saved;
 mod spoiled;
@@ -41,6 +42,7 @@ pub fn report() -> bool {
     named::all(&mut checks, &compared);
     saved::all(&mut checks, &compared);
     pencil::all(&mut checks, &compared);
+    plain::all(&mut checks, &compared);
     generator::all(&mut checks, &compared);
     for name in &checks.failed {
         println!("failed: {}", name);

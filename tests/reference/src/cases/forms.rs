@@ -7,7 +7,7 @@ use crate::psp::rectangle::Rectangle;
 use crate::write::{Form, Image, InBank, InLayer, Layer, Picture};
 
 /// Depth, and whether it is grey.
-const DEPTHS: [(u16, bool); 5] = [(1, false), (4, false), (8, true), (8, false), (24, false)];
+pub const DEPTHS: [(u16, bool); 5] = [(1, false), (4, false), (8, true), (8, false), (24, false)];
 
 /// Sides of the saved rectangles: small ones, where lengths of one form and one
 /// off the other meet and planes have no pixels; one

@@ -81,13 +81,13 @@ fn bank(random: &mut Random, image: &Image, skipping: bool) -> Vec<InBank> {
     let mut bank = Vec::new();
     for _ in 0..image.layer_count {
         if skipping && random.one_in(4) {
-            bank.push(InBank::Skipped(unknown(random)));
+            bank.extend(run(random, unknown).map(InBank::Skipped));
         }
         let plain = image.layer_count > 12;
         bank.push(InBank::Layer(layer(random, image, plain, skipping)));
     }
     if skipping && random.one_in(4) {
-        bank.push(InBank::Skipped(unknown(random)));
+        bank.extend(run(random, unknown).map(InBank::Skipped));
     }
     bank
 }
@@ -106,18 +106,18 @@ fn palette(random: &mut Random, depth: u16) -> Main {
     Main::Palette((0..count).map(entry).collect())
 }
 
-/// A skipped main block, put anywhere; thumbnails stand before the bank.
+/// Skipped main blocks, put anywhere; thumbnails stand before the bank.
 fn skip(random: &mut Random, main: &mut Vec<Main>) {
-    let block = known(random);
+    let blocks: Vec<Skipped> = run(random, known).collect();
     let place = random.index(main.len() + 1);
     let is_bank = |block: &Main| matches!(block, Main::Bank(_));
     let bank = main.iter().position(is_bank).unwrap_or(0);
-    let place = if block.id == 9 {
+    let place = if blocks.iter().any(|block| block.id == 9) {
         place.min(bank)
     } else {
         place
     };
-    main.insert(place, Main::Skipped(block));
+    main.splice(place..place, blocks.into_iter().map(Main::Skipped));
 }
 
 fn side(random: &mut Random) -> u32 {
@@ -173,6 +173,15 @@ fn unknown(random: &mut Random) -> Skipped {
     }
 }
 
+/// One of them as a rule, at times several, one behind another.
+fn run(
+    random: &mut Random,
+    block: fn(&mut Random) -> Skipped,
+) -> impl Iterator<Item = Skipped> + '_ {
+    let length = random.pick(&[1, 1, 1, 2, 3, 5]);
+    (0..length).map(move |_| block(random))
+}
+
 /// A block that main only skips.
 fn known(random: &mut Random) -> Skipped {
     let mut block = unknown(random);
@@ -214,7 +223,7 @@ fn layer(random: &mut Random, image: &Image, plain: bool, skipping: bool) -> Lay
 
 fn perhaps_skipped(random: &mut Random, skipping: bool, inside: &mut Vec<InLayer>) {
     if skipping && random.one_in(6) {
-        inside.push(InLayer::Skipped(unknown(random)));
+        inside.extend(run(random, unknown).map(InLayer::Skipped));
     }
 }
 
@@ -234,14 +243,14 @@ fn alpha_bank(random: &mut Random, image: &Image, skipping: bool) -> AlphaBank {
     let mut inside = Vec::new();
     for _ in 0..random.pick(&[0, 1, 2, 2, 3]) {
         if skipping && random.one_in(4) {
-            inside.push(InAlphaBank::Skipped(unknown(random)));
+            inside.extend(run(random, unknown).map(InAlphaBank::Skipped));
         }
         let mut alpha = Alpha::new("", area(random, image, write::ALPHA, skipping));
         name(random, &mut alpha.name);
         inside.push(InAlphaBank::Alpha(alpha));
     }
     if skipping && random.one_in(4) {
-        inside.push(InAlphaBank::Skipped(unknown(random)));
+        inside.extend(run(random, unknown).map(InAlphaBank::Skipped));
     }
     AlphaBank::new(inside)
 }

@@ -184,15 +184,23 @@ fn header_fields(tree: &Tree, paths: &[Vec<usize>], cases: &mut Vec<Case>) {
     }
     // Totals off by a little, which the boundary values may miss.
     for path in paths {
-        for off in -16i64..=16 {
-            let mut changed = tree.clone();
-            if let Some(node) = changed.node(path) {
-                let near = i64::from(node.true_total()) + off;
-                node.total = Some(near.max(0) as u32);
-            }
+        for off in -16..=16 {
+            let changed = with_totals_off(tree, path, path.len(), off);
             cases.push(listing(changed.bytes()));
         }
     }
+}
+
+/// The blocks on the way to a block, from a level on, with totals off by so much.
+pub fn with_totals_off(tree: &Tree, path: &[usize], outermost: usize, off: i64) -> Tree {
+    let mut changed = tree.clone();
+    for level in outermost..=path.len() {
+        if let Some(node) = changed.node(&path[..level]) {
+            let near = i64::from(node.true_total()) + off;
+            node.total = Some(near.clamp(0, 0xFFFF_FFFF) as u32);
+        }
+    }
+    changed
 }
 
 /// A total off together with those of all its parents, and for a channel with
@@ -211,16 +219,10 @@ fn totals_together(tree: &Tree, cases: &mut Vec<Case>) {
             0x7FFF_0000,
             0xFFFF_0000,
         ] {
-            let mut changed = tree.clone();
-            for depth in 1..=path.len() {
-                if let Some(node) = changed.node(&path[..depth]) {
-                    let near = i64::from(node.true_total()) + off;
-                    node.total = Some(near.clamp(0, 0xFFFF_FFFF) as u32);
-                    if node.id == 5 {
-                        let stored = (node.data.len() as i64 - 12 + off).max(0);
-                        fields::CHANNEL[0].set(&mut node.data, stored as u64);
-                    }
-                }
+            let mut changed = with_totals_off(tree, &path, 1, off);
+            if let Some(channel) = changed.node(&path).filter(|node| node.id == 5) {
+                let stored = (channel.data.len() as i64 - 12 + off).max(0);
+                fields::CHANNEL[0].set(&mut channel.data, stored as u64);
             }
             cases.push(listing(changed.bytes()));
         }
@@ -229,7 +231,7 @@ fn totals_together(tree: &Tree, cases: &mut Vec<Case>) {
 
 /// A block of every id before every block and after the last one of every
 /// parent; and every block with every id.
-fn ids(tree: &Tree, cases: &mut Vec<Case>) {
+pub fn ids(tree: &Tree, cases: &mut Vec<Case>) {
     let mut parents = vec![Vec::new()];
     parents.extend(tree.paths());
     for parent in parents {
@@ -265,7 +267,7 @@ fn ids(tree: &Tree, cases: &mut Vec<Case>) {
 
 /// Blocks deleted, repeated, swapped with the next, taken out of their
 /// parent, and put into another.
-fn blocks(tree: &Tree, cases: &mut Vec<Case>) {
+pub fn blocks(tree: &Tree, cases: &mut Vec<Case>) {
     let paths = tree.paths();
     for path in &paths {
         let (place, above) = match path.split_last() {
@@ -306,21 +308,24 @@ fn blocks(tree: &Tree, cases: &mut Vec<Case>) {
     }
 }
 
+/// Whether a byte of a chunk lies inside a name or blend ranges, by the block's id.
+pub fn is_free(id: u16, at: usize) -> bool {
+    let is_in_name = (2..256).contains(&at);
+    let is_in_ranges = (331..371).contains(&at);
+    match id {
+        4 => is_in_name || is_in_ranges,
+        8 => is_in_name,
+        _ => false,
+    }
+}
+
 /// Every byte but those inside names and blend ranges, with one bit or all
 /// turned.
 fn bytes(tree: &Tree, cases: &mut Vec<Case>) {
     let written = tree.written();
     let is_free = |at: usize| {
-        written.headers.iter().any(|header| {
-            let at = at.saturating_sub(header.place + 14);
-            let is_in_name = (2..256).contains(&at);
-            let is_in_ranges = (331..371).contains(&at);
-            match header.id {
-                4 => is_in_name || is_in_ranges,
-                8 => is_in_name,
-                _ => false,
-            }
-        })
+        let mut headers = written.headers.iter();
+        headers.any(|header| is_free(header.id, at.saturating_sub(header.place + 14)))
     };
     for at in 0..written.bytes.len() {
         if is_free(at) {
