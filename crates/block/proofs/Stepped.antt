@@ -207,8 +207,8 @@ module _ (s : List ℕ) (st : State) (at end levels : ℕ) where
 
   -- ### The step
 
-  -- the header at an entry's place is marked and has its id; its lengths are those of its kind, and of a skipped block all that it announces
-  -- is content
+  -- the header at an entry's place is marked and has its id; the lengths there are those of its kind, or all that it announces is content,
+  -- where the entry is skipped
   pub record OfHeader (e : Entry) : Type 0 where
     pub marked : isMarked (blockHeaderAt s at) ≡ true
     pub named : e .block .id ≡ blockHeaderAt s at .id

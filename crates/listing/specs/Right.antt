@@ -310,8 +310,8 @@ pub record Right (s : List ℕ) (before : List Entry) (e : Entry) : Type 0 where
   pub kind : (id : ℕ) → isKind id e ≡ true → RightAs id s before e
   pub skipped : e .block .skipped ≡ 1 → SkipRight s e
 
--- and the header at its place is marked and has its id; the lengths there are those of its kind, and of a skipped block all that is announced
--- is content
+-- and the header at its place is marked and has its id; the lengths there are those of its kind, or all that it announces is content, where
+-- the entry is skipped
 pub record Headed (s : List ℕ) (e : Entry) : Type 0 where
   pub marked : isMarked (blockHeaderAt s (e .block .place)) ≡ true
   pub named : e .block .id ≡ blockHeaderAt s (e .block .place) .id

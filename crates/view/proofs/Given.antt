@@ -1,5 +1,5 @@
 -- At the places that a listing gives, refused or not, the blocks' own chunks stand; and of an accepted input that is what the views show.
-use mathlib.Core.Path.{_≡_, sym, ap, subst⁻¹, _∙_}
+use mathlib.Core.Path.{_≡_, sym, ap, _∙_}
 use mathlib.Core.Bool.{true, _&&_}
 use mathlib.Core.List.{List, _++_, _∷_}
 use Prim.Native.Nat.{ℕ, suc, _+_, _≤_, _<_}
@@ -15,8 +15,7 @@ use Rattle.answer.specs.declared.Answer.the-variants.{Accepted}
 use Rattle.answer.proofs.Names.{accepted-yes}
 use Rattle.entry.specs.declared.Entry.{Entry}
 use Rattle.entry.specs.Entry.{nowhere, isKind}
-use Rattle.headers.specs.BlockHeader.{blockHeaderSize, blockHeaderAt, isMarked}
-use Rattle.block.specs.Step.{areLengths}
+use Rattle.headers.specs.BlockHeader.{blockHeaderSize, blockHeaderAt}
 use Rattle.listing.specs.declared.question.Question.{Question}
 use Rattle.listing.specs.Listing.{listed}
 use Rattle.listing.specs.Question.{question, isAsked, foundIn}
@@ -27,7 +26,7 @@ use Rattle.view.specs.declared.sought.Sought.the-variants.{At}
 use Rattle.view.specs.Asked.{asked, isThere, chunkSought, layerSought}
 use Rattle.view.specs.Facts.{layerFacts, layerFactsOf}
 use Rattle.view.specs.Name.{nameAt, nameOf, nameView}
-use Rattle.view.specs.At.{isHeaderOf, isBlockAt, chunkAt, layerHere, layerFactsAt, nameViewAt}
+use Rattle.view.specs.At.{isHeaderOf, chunkAt, layerHere, layerFactsAt, nameViewAt}
 use Rattle.view.proofs.Accepted.{kind, so-many}
 use Rattle.view.proofs.Asked.{sought-there}
 use Rattle.view.proofs.Here.{by-header, stands}
@@ -45,7 +44,7 @@ module _ (s : List ℕ) (room k : ℕ) (d : Entry) (low : k < length (listed s r
   -- ### A block of any kind, with so many bytes of chunk
 
   module _ (id size none : ℕ) (is : isKind id e ≡ true) (inside : place + (blockHeaderSize + size) ≤ length s) where
-    -- its header is good, as the walk has found it
+    -- its header is good: the walk has judged it so
     header : isHeaderOf id (blockHeaderAt s place) ≡ true
     header =
         let h = each-headed s room k d low in
@@ -54,6 +53,7 @@ module _ (s : List ℕ) (room k : ℕ) (d : Entry) (low : k < length (listed s r
         let lengths = h .lengths (eqb-true (e .block .skipped) 0 (parts .0)) in
         λ i. (h .marked i && named i) && lengths i
 
+    -- where the entry says, the block stands
     pub entry-stands : chunkAt s place id size none ≡ At (place + blockHeaderSize)
     entry-stands = stands s place id size none (by-header s place id size inside ∙ header)
 
