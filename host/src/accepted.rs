@@ -2,15 +2,12 @@
 
 use crate::answer::{self, Refused};
 use crate::asked::Asked;
-use crate::blocks::{Blocks, Holding};
 use crate::buffer;
 use crate::failure::Failure;
-use crate::fields;
-use crate::holder::{Chunk, Holder, Which};
 use crate::identity::Identity;
 use crate::name;
-use crate::psp::ffi::{ImageChunk, ACCEPTED, ENTRY_NUMBERS, INPUT_LIMIT};
-use crate::psp::{self, Entry, Listed};
+use crate::psp::ffi::{ACCEPTED, ENTRY_NUMBERS, INPUT_LIMIT};
+use crate::psp::{self, Listed};
 use crate::saved;
 use crate::words;
 use crate::working::Working;
@@ -143,108 +140,7 @@ pub fn refused(answer: &Listed, table: &[u32], input: &[u8], size: Option<u64>) 
     Failure::Refused(refused.sentence())
 }
 
-/// An accepted file, with the blocks that are not skipped.
-pub struct Accepted {
-    pub bytes: Vec<u8>,
-    pub identity: Option<Identity>,
-    blocks: Blocks,
-}
-
-impl Accepted {
-    pub fn of(input: Input) -> Result<Accepted, Failure> {
-        let (answer, table) = list(&input.bytes)?;
-        if answer.number != ACCEPTED {
-            return Err(input.refused(&answer, &table));
-        }
-        Ok(Accepted::listed(input, &table))
-    }
-
-    /// An input whose listing is accepted.
-    pub fn listed(input: Input, table: &[u32]) -> Accepted {
-        Accepted {
-            blocks: Blocks::of(table),
-            bytes: input.bytes,
-            identity: input.identity,
-        }
-    }
-
-    pub fn image(&self) -> Result<ImageChunk, Failure> {
-        let _working = Working::listing(&self.bytes);
-        let facts = psp::image_facts(&self.bytes, ROOM);
-        good(facts.number, facts.image)
-    }
-
-    /// Layers, selection and alpha channels, in file order.
-    pub fn holders(&self) -> impl Iterator<Item = Which> + '_ {
-        self.blocks.holdings().map(|holding| holding.which)
-    }
-
-    /// Those that are asked for, with all that the views show of them.
-    pub fn holders_of(&self, is_asked: impl Fn(Which) -> bool) -> Result<Vec<Holder>, Failure> {
-        let holdings = self.blocks.holdings();
-        let asked = holdings.filter(|holding| is_asked(holding.which));
-        let holder = |holding: Holding| {
-            let (name, chunk) = self.shown(holding.which, holding.entry)?;
-            let bitmaps = holding.channels.iter().map(|channel| channel.bitmap);
-            Ok(Holder {
-                which: holding.which,
-                name,
-                chunk,
-                bitmaps: bitmaps.collect(),
-            })
-        };
-        asked.map(holder).collect()
-    }
-
-    /// Name and chunk. Each view lists the file, and there may be 65,535 alpha channels: their fields
-    /// are read where the listing has them, which host/tests/fields.rs compares with the views.
-    fn shown(&self, which: Which, entry: &Entry) -> Result<(Option<Vec<u8>>, Chunk), Failure> {
-        if let Which::Alpha(_) = which {
-            if let Some(chunk) = fields::holder(&self.bytes, entry) {
-                return Ok((chunk.name().map(<[u8]>::to_vec), chunk));
-            }
-        }
-        let name = self.name(which)?.map(<[u8]>::to_vec);
-        Ok((name, self.chunk(which)?))
-    }
-
-    fn name(&self, which: Which) -> Result<Option<&[u8]>, Failure> {
-        let _working = Working::listing(&self.bytes);
-        let view = match which {
-            Which::Layer(k) => psp::name(&self.bytes, ROOM, k),
-            Which::Alpha(k) => psp::alpha_name(&self.bytes, ROOM, k),
-            Which::Selection => return Ok(None),
-        };
-        good(view.number, Some(view.bytes))
-    }
-
-    pub fn chunk(&self, which: Which) -> Result<Chunk, Failure> {
-        let _working = Working::listing(&self.bytes);
-        match which {
-            Which::Layer(k) => {
-                let facts = psp::layer_facts(&self.bytes, ROOM, k);
-                good(facts.number, Chunk::Layer(facts.layer))
-            }
-            Which::Selection => {
-                let facts = psp::selection_facts(&self.bytes, ROOM);
-                good(facts.number, Chunk::Selection(facts.selection))
-            }
-            Which::Alpha(k) => {
-                let facts = psp::alpha_facts(&self.bytes, ROOM, k);
-                good(facts.number, Chunk::Alpha(facts.alpha))
-            }
-        }
-    }
-
-    /// The channels in one of them, in file order.
-    pub fn channels(&self, which: Which) -> &[Entry] {
-        let mut holdings = self.blocks.holdings();
-        let holding = holdings.find(|holding| holding.which == which);
-        holding.map_or(&[], |holding| holding.channels)
-    }
-}
-
-/// What a view shows, if its answer is good.
+/// What the library shows, if its answer is good.
 pub fn good<T>(number: u32, shown: T) -> Result<T, Failure> {
     match number {
         ACCEPTED => Ok(shown),

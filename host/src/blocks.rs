@@ -4,7 +4,8 @@ use crate::holder::Which;
 use crate::lines;
 use crate::psp::ffi::Entry;
 
-/// The id of a channel.
+/// The ids of the image and of a channel.
+const IMAGE: u32 = 0;
 const CHANNEL: u32 = 5;
 
 /// Those of a table that are not skipped. Of several in a row that neither are channels nor hold any
@@ -29,6 +30,11 @@ impl Blocks {
             }
         }
         Blocks(blocks)
+    }
+
+    /// The image, which in a listing comes before every other block.
+    pub fn image(&self) -> Option<&Entry> {
+        self.0.first().filter(|entry| entry.id == IMAGE)
     }
 
     /// Layers, selection and alpha channels, in file order.
@@ -118,6 +124,23 @@ mod tests {
         assert_eq!(blocks.0.len(), 5);
         let lengths: Vec<_> = blocks.holdings().map(|of| of.channels.len()).collect();
         assert_eq!(lengths, [1]);
+    }
+
+    #[test]
+    fn the_image_is_the_first_block() {
+        let image = |entries: &[[u32; 4]]| {
+            let blocks = Blocks::of(&table(entries));
+            blocks.image().copied()
+        };
+        let first = Entry {
+            layer: 7,
+            ..Entry::default()
+        };
+        assert_eq!(image(&[[0, 0, 7, 0], [3, 0, 0, 0]]), Some(first));
+        assert_eq!(image(&[[12, 1, 0, 0], [0, 0, 7, 0]]), Some(first));
+        assert_eq!(image(&[[4, 0, 0, 0], [0, 0, 7, 0]]), None);
+        assert_eq!(image(&[[0, 1, 7, 0]]), None);
+        assert_eq!(image(&[]), None);
     }
 
     #[test]

@@ -1,7 +1,8 @@
 //! `psp compare`: a table typed by hand against the file's.
 
-use crate::accepted::{self, Accepted, Input};
+use crate::accepted::{self, Input};
 use crate::arguments::{Arguments, Known};
+use crate::artwork::Artwork;
 use crate::collect;
 use crate::difference::{self, Report};
 use crate::export;
@@ -85,7 +86,7 @@ fn compared(file: &OsStr, table: &OsStr) -> Result<Compared, Failure> {
 }
 
 pub fn with_artwork(input: Input, table: &OsStr) -> Result<Compared, Failure> {
-    let layers = export::compared(&Accepted::of(input)?)?;
+    let layers = export::compared(&Artwork::accepted(input)?)?;
     let typed = typed(table)?;
     Ok((typed.said, difference::report(&layers, &typed.rows)))
 }

@@ -1,6 +1,7 @@
 //! `--csv` and `--json` of `psp layers` and `psp alphas`: their tables for other programs.
 
-use crate::accepted::{Accepted, Input};
+use crate::accepted::Input;
+use crate::artwork::Artwork;
 use crate::asked::Form;
 use crate::failure::Failure;
 use crate::holder::{Holder, Which};
@@ -11,7 +12,7 @@ use crate::table::{self, Alpha, Besides, Layer};
 use std::io::Write;
 
 pub fn layers(input: Input, form: Form) -> Result<(), Failure> {
-    let holders = Accepted::of(input)?.holders_of(Which::is_layer)?;
+    let holders = Artwork::accepted(input)?.holders_of(Which::is_layer)?;
     let layers = || holders.iter().map(layer);
     match form {
         Form::Json => {
@@ -26,7 +27,7 @@ pub fn layers(input: Input, form: Form) -> Result<(), Failure> {
 }
 
 pub fn alphas(input: Input, form: Form) -> Result<(), Failure> {
-    let holders = Accepted::of(input)?.holders_of(|which| !which.is_layer())?;
+    let holders = Artwork::accepted(input)?.holders_of(|which| !which.is_layer())?;
     let alphas: Vec<Alpha> = holders.iter().filter_map(alpha).collect();
     match form {
         Form::Json => print(table::alphas_json(&alphas).as_bytes()),
@@ -35,7 +36,7 @@ pub fn alphas(input: Input, form: Form) -> Result<(), Failure> {
 }
 
 /// The layers as they are compared, in file order.
-pub fn compared(file: &Accepted) -> Result<Vec<Layer>, Failure> {
+pub fn compared(file: &Artwork) -> Result<Vec<Layer>, Failure> {
     let holders = file.holders_of(Which::is_layer)?;
     Ok(holders.iter().map(layer).collect())
 }

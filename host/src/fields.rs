@@ -1,9 +1,7 @@
-//! Fields at their fixed places, for files that the library's views refuse: only of blocks that a
-//! listing has passed, or of the bytes at a refusal's place. Document 000 has the order of fields.
+//! Fields at their fixed places: of the image that a listing has, and for the words on a refusal and
+//! on the steps of a listing. Document 000 has the order of fields.
 
-use crate::holder::Chunk;
-use crate::psp::ffi::{AlphaChunk, Area, Entry, ImageChunk, LayerChunk};
-use crate::psp::ffi::{Rect, Resolution, SelectionChunk};
+use crate::psp::ffi::{Entry, ImageChunk, Rect, Resolution};
 
 /// Bytes of the file header: the signature and the version.
 pub const FILE_HEADER: usize = 36;
@@ -16,6 +14,9 @@ pub const HEADER: usize = 14;
 
 /// The mark that each block header begins with.
 pub const MARK: [u8; 4] = *b"~BK\0";
+
+/// Bytes of a name.
+const NAME: usize = 256;
 
 /// A block header.
 #[derive(Clone, Copy, Debug, PartialEq, Eq)]
@@ -85,57 +86,6 @@ pub fn image(input: &[u8], entry: &Entry) -> Option<ImageChunk> {
     })
 }
 
-/// The chunk of a layer, a selection or an alpha channel, an entry of a listing.
-pub fn holder(input: &[u8], entry: &Entry) -> Option<Chunk> {
-    match entry.id {
-        4 => layer(input, entry).map(Chunk::Layer),
-        6 => selection(input, entry).map(Chunk::Selection),
-        8 => alpha(input, entry).map(Chunk::Alpha),
-        _ => None,
-    }
-}
-
-fn layer(input: &[u8], entry: &Entry) -> Option<LayerChunk> {
-    let mut fields = Fields::of(input, entry)?;
-    Some(LayerChunk {
-        name: fields.bytes()?,
-        kind: fields.byte()?,
-        image: fields.area()?,
-        opacity: fields.byte()?,
-        blending: fields.byte()?,
-        visible: fields.flag()?,
-        transparency_protected: fields.flag()?,
-        group: fields.byte()?,
-        mask: fields.area()?,
-        linked: fields.flag()?,
-        disabled: fields.flag()?,
-        inverted: fields.flag()?,
-        blends: fields.word()?,
-        ranges: fields.bytes()?,
-        bitmaps: fields.word()?,
-        channels: fields.word()?,
-    })
-}
-
-fn selection(input: &[u8], entry: &Entry) -> Option<SelectionChunk> {
-    let mut fields = Fields::of(input, entry)?;
-    Some(SelectionChunk {
-        area: fields.area()?,
-        bitmaps: fields.word()?,
-        channels: fields.word()?,
-    })
-}
-
-fn alpha(input: &[u8], entry: &Entry) -> Option<AlphaChunk> {
-    let mut fields = Fields::of(input, entry)?;
-    Some(AlphaChunk {
-        name: fields.bytes()?,
-        area: fields.area()?,
-        bitmaps: fields.word()?,
-        channels: fields.word()?,
-    })
-}
-
 /// Little-endian fields one after another, none where the bytes end.
 pub struct Fields<'a> {
     rest: &'a [u8],
@@ -169,11 +119,6 @@ impl<'a> Fields<'a> {
         self.bytes().map(u8::from_le_bytes)
     }
 
-    /// Off is 0, and on any other value.
-    fn flag(&mut self) -> Option<u8> {
-        self.byte().map(|byte| u8::from(byte != 0))
-    }
-
     pub fn word(&mut self) -> Option<u16> {
         self.bytes().map(u16::from_le_bytes)
     }
@@ -199,11 +144,11 @@ impl<'a> Fields<'a> {
         })
     }
 
-    fn area(&mut self) -> Option<Area> {
-        Some(Area {
-            border: self.rectangle()?,
-            saved: self.rectangle()?,
-        })
+    /// A name: of its 256 bytes those before the first zero, or all.
+    pub fn name(&mut self) -> Option<&'a [u8]> {
+        let field = self.rest.get(..NAME)?;
+        self.rest = self.rest.get(NAME..)?;
+        field.split(|&byte| byte == 0).next()
     }
 }
 
@@ -244,79 +189,33 @@ mod tests {
     }
 
     #[test]
-    fn layer_fields_stand_at_their_places() {
-        let mut chunk = vec![0; 375];
-        for place in [256, 257, 269, 273, 289, 290, 293, 294, 310, 326, 370] {
-            chunk[place] = (place % 251) as u8;
-        }
-        chunk[..2].copy_from_slice(b"ab");
-        for place in [291, 292, 327, 328] {
-            chunk[place] = 9;
-        }
-        chunk[329..331].copy_from_slice(&[5, 0]);
-        chunk[331] = 77;
-        chunk[371..].copy_from_slice(&[2, 0, 4, 0]);
-        let (input, entry) = entry(&chunk);
-        let layer = layer(&input, &entry).expect("a whole chunk");
-        assert_eq!(layer.name[..3], *b"ab\0");
-        assert_eq!(layer.kind, 5);
-        assert_eq!(
-            (layer.image.border.left, layer.image.border.bottom),
-            (6, 18)
-        );
-        assert_eq!((layer.image.saved.left, layer.opacity), (22, 38));
-        assert_eq!((layer.blending, layer.group), (39, 42));
-        assert_eq!((layer.visible, layer.transparency_protected), (1, 1));
-        assert_eq!((layer.mask.border.left, layer.mask.saved.left), (43, 59));
-        assert_eq!((layer.linked, layer.disabled, layer.inverted), (1, 1, 1));
-        assert_eq!((layer.blends, layer.ranges[0]), (5, 77));
-        assert_eq!(layer.ranges[39], (370 % 251) as u8);
-        assert_eq!((layer.bitmaps, layer.channels), (2, 4));
-    }
-
-    #[test]
-    fn selection_and_alpha_fields_stand_at_their_places() {
-        let (input, whole) = entry(&counted(36));
-        let selection = selection(&input, &whole).expect("a whole chunk");
-        let Area { border, saved } = selection.area;
-        assert_eq!((border.left, border.bottom), (0x0403_0201, 0x100F_0E0D));
-        assert_eq!((saved.left, saved.bottom), (0x1413_1211, 0x201F_1E1D));
-        assert_eq!((selection.bitmaps, selection.channels), (0x2221, 0x2423));
-        let chunk: Vec<u8> = [&[b'n'; 256][..], &counted(36)].concat();
-        let (input, whole) = entry(&chunk);
-        let alpha = alpha(&input, &whole).expect("a whole chunk");
-        assert_eq!((alpha.name, alpha.area), ([b'n'; 256], selection.area));
-        assert_eq!((alpha.bitmaps, alpha.channels), (0x2221, 0x2423));
-    }
-
-    #[test]
-    fn a_chunk_is_read_by_the_kind_of_its_block() {
-        let (input, whole) = entry(&counted(375));
-        let of = |id| holder(&input, &Entry { id, ..whole });
-        assert!(matches!(of(4), Some(Chunk::Layer(_))));
-        assert!(matches!(of(6), Some(Chunk::Selection(_))));
-        assert!(matches!(of(8), Some(Chunk::Alpha(_))));
-        assert!([0, 2, 3, 5, 7, 9, 99].iter().all(|&id| of(id).is_none()));
-    }
-
-    #[test]
     fn nothing_is_read_behind_what_an_entry_owns() {
-        let (input, mut short) = entry(&counted(375));
-        assert!(layer(&input, &short).is_some());
-        short.owned -= 1;
-        assert!(layer(&input, &short).is_none());
-        for (id, size) in [(6, 36), (8, 292)] {
-            let [whole, short] = [0, 1].map(|less| Entry {
-                id,
-                owned: (HEADER + size - less) as u32,
-                ..short
-            });
-            assert!(holder(&input, &whole).is_some());
-            assert!(holder(&input, &short).is_none());
-        }
-        assert!(layer(&input[..input.len() - 1], &entry(&counted(375)).1).is_none());
-        short.place = u32::MAX;
+        let (input, whole) = entry(&counted(38));
+        assert!(image(&input, &whole).is_some());
+        assert!(image(&input[..input.len() - 1], &whole).is_none());
+        let short = Entry {
+            owned: whole.owned - 1,
+            ..whole
+        };
         assert!(image(&input, &short).is_none());
+        let far = Entry {
+            place: u32::MAX,
+            ..whole
+        };
+        assert!(image(&input, &far).is_none());
+    }
+
+    #[test]
+    fn a_name_ends_before_its_first_zero_or_is_all_256() {
+        let name = |bytes: &[u8]| {
+            let mut input = bytes.to_vec();
+            input.resize(2 * NAME, 0);
+            let mut fields = Fields { rest: &input };
+            fields.name().map(<[u8]>::to_vec)
+        };
+        assert_eq!(name(b"").as_deref(), Some(&b""[..]));
+        assert_eq!(name(b"ab\0c").as_deref(), Some(&b"ab"[..]));
+        assert_eq!(name(&[b'x'; 300]).as_deref(), Some(&[b'x'; NAME][..]));
     }
 
     #[test]

@@ -55,16 +55,6 @@ pub enum Chunk {
 }
 
 impl Chunk {
-    /// Its name, the bytes before the first zero or all 256; a selection has none.
-    pub fn name(&self) -> Option<&[u8]> {
-        let bytes = match self {
-            Chunk::Layer(layer) => &layer.name,
-            Chunk::Alpha(alpha) => &alpha.name,
-            Chunk::Selection(_) => return None,
-        };
-        bytes.split(|&byte| byte == 0).next()
-    }
-
     /// The rectangles that the planes of a bitmap have.
     pub fn area(&self, bitmap: u32) -> Area {
         match self {
@@ -145,25 +135,45 @@ pub const NOT_KNOWN: &str = "not known";
 #[cfg(test)]
 mod tests {
     use super::*;
-    use crate::fields;
+    use crate::psp::ffi::Rect;
 
     fn entry(id: u32, layer: u32) -> Entry {
         Entry {
             id,
             layer,
-            owned: 389,
             ..Entry::default()
         }
     }
 
-    /// A chunk in which byte 256 and those behind it are their places, and the name has these bytes.
-    fn chunk(id: u32, name: &[u8]) -> Chunk {
-        let mut input: Vec<u8> = (0..389)
-            .map(|at: usize| at.saturating_sub(14) as u8)
-            .collect();
-        input[14..14 + 256].fill(0);
-        input[14..14 + name.len()].copy_from_slice(name);
-        fields::holder(&input, &entry(id, 0)).expect("a whole chunk")
+    /// A border that begins at this left side, and a saved rectangle one further to the right.
+    fn area(left: i32) -> Area {
+        let [border, saved] = [left, left + 1].map(|left| Rect {
+            left,
+            ..Rect::default()
+        });
+        Area { border, saved }
+    }
+
+    /// A layer of two channels.
+    fn layer() -> Chunk {
+        Chunk::Layer(LayerChunk {
+            name: [0; 256],
+            kind: 0,
+            image: area(10),
+            opacity: 0,
+            blending: 0,
+            visible: 0,
+            transparency_protected: 0,
+            group: 0,
+            mask: area(20),
+            linked: 0,
+            disabled: 0,
+            inverted: 0,
+            blends: 0,
+            ranges: [0; 40],
+            bitmaps: 2,
+            channels: 2,
+        })
     }
 
     #[test]
@@ -183,39 +193,35 @@ mod tests {
     }
 
     #[test]
-    fn a_name_ends_before_its_first_zero_or_is_all_256() {
-        for id in [4, 8] {
-            assert_eq!(chunk(id, b"").name(), Some(&b""[..]));
-            assert_eq!(chunk(id, b"ab\0c").name(), Some(&b"ab"[..]));
-            assert_eq!(chunk(id, &[b'x'; 256]).name(), Some(&[b'x'; 256][..]));
-        }
-        assert_eq!(chunk(6, b"").name(), None);
-    }
-
-    #[test]
     fn the_mask_of_a_layer_has_rectangles_of_its_own() {
-        let lefts = |id, bitmap| {
-            let area = chunk(id, b"").area(bitmap);
-            [area.border.left, area.saved.left].map(|left| left as u8)
+        let lefts = |chunk: Chunk, bitmap| {
+            let area = chunk.area(bitmap);
+            [area.border.left, area.saved.left]
         };
-        assert_eq!(lefts(4, 0), [257, 273].map(|at: usize| at as u8));
-        assert_eq!(lefts(4, 1), lefts(4, 0));
-        assert_eq!(lefts(4, 2), [294, 310].map(|at: usize| at as u8));
-        assert_eq!(lefts(6, 3), [0, 0]);
-        assert_eq!(lefts(8, 4), [256, 272].map(|at: usize| at as u8));
+        assert_eq!([0, 1].map(|of| lefts(layer(), of)), [[10, 11]; 2]);
+        assert_eq!(lefts(layer(), 2), [20, 21]);
+        let selection = Chunk::Selection(SelectionChunk {
+            area: area(30),
+            bitmaps: 1,
+            channels: 1,
+        });
+        assert_eq!(lefts(selection, 3), [30, 31]);
+        let alpha = Chunk::Alpha(AlphaChunk {
+            name: [0; 256],
+            area: area(40),
+            bitmaps: 1,
+            channels: 1,
+        });
+        assert_eq!(lefts(alpha, 4), [40, 41]);
     }
 
     #[test]
     fn masks_are_known_where_every_channel_was_found() {
         let masks = |bitmaps: &[u32]| {
-            let mut chunk = chunk(4, b"");
-            if let Chunk::Layer(layer) = &mut chunk {
-                layer.channels = 2;
-            }
             let layer = Holder {
                 which: Which::Layer(0),
                 name: None,
-                chunk,
+                chunk: layer(),
                 bitmaps: bitmaps.to_vec(),
             };
             layer.masks()

@@ -2,14 +2,20 @@
 //! what it belongs to, is told by its header and by the entries; nothing is judged here a second
 //! time.
 
-use crate::fields::{self, Block, Channel, FILE_HEADER, HEADER};
-use crate::holder::{Chunk, Which};
+use crate::fields::{self, Block, Channel, Fields, FILE_HEADER, HEADER};
+use crate::holder::Which;
 use crate::lines;
 use crate::name;
-use crate::psp::ffi::{Entry, ImageChunk};
+use crate::psp::ffi::{Entry, ImageChunk, Rect};
 
 const IMAGE: u32 = 0;
 const CHANNEL: u32 = 5;
+
+/// Bytes of a rectangle; a saved one stands behind its border.
+const RECTANGLE: usize = 16;
+
+/// Where a layer's chunk has its count of bitmaps.
+const BITMAPS: usize = 371;
 
 /// What a listing has passed, as far as the next block is told by it.
 #[derive(Clone, Copy)]
@@ -130,9 +136,20 @@ impl<'a> Judged<'a> {
         self.nearest().and_then(Which::of)
     }
 
-    /// The chunk of that.
-    pub fn holder(&self) -> Option<Chunk> {
-        fields::holder(self.input, self.nearest()?)
+    /// The border of a bitmap's planes in that.
+    pub fn border(&self, bitmap: u32) -> Option<Rect> {
+        self.holder(self.border_at(bitmap)?)?.rectangle()
+    }
+
+    /// The saved rectangle of a bitmap's planes in that.
+    pub fn saved(&self, bitmap: u32) -> Option<Rect> {
+        self.holder(self.border_at(bitmap)? + RECTANGLE)?
+            .rectangle()
+    }
+
+    /// How many bitmaps a layer has by its own count.
+    pub fn bitmaps(&self) -> Option<u16> {
+        self.holder(BITMAPS)?.word()
     }
 
     /// Itself, as a channel.
@@ -142,10 +159,13 @@ impl<'a> Judged<'a> {
 
     /// What it lies in, or is, by its number and its name where it has them.
     pub fn holder_words(&self) -> Option<String> {
-        let (which, chunk) = (self.which()?, self.holder()?);
-        Some(match chunk.name() {
-            Some(name) => format!("{} ({})", which, name::quoted(name)),
-            None => which.to_string(),
+        let which = self.which()?;
+        Some(match which {
+            Which::Selection => which.to_string(),
+            Which::Layer(_) | Which::Alpha(_) => {
+                let name = self.holder(0)?.name()?;
+                format!("{} ({})", which, name::quoted(name))
+            }
         })
     }
 
@@ -153,6 +173,22 @@ impl<'a> Judged<'a> {
     pub fn channel_words(&self) -> Option<String> {
         let number = self.before.channels;
         Some(format!("{}, channel {}", self.holder_words()?, number))
+    }
+
+    /// Where the border stands in the chunk of what it lies in, or its own.
+    fn border_at(&self, bitmap: u32) -> Option<usize> {
+        Some(match self.which()? {
+            Which::Layer(_) if bitmap == 2 => 294,
+            Which::Layer(_) => 257,
+            Which::Selection => 0,
+            Which::Alpha(_) => 256,
+        })
+    }
+
+    /// The fields from an offset of that chunk on.
+    fn holder(&self, offset: usize) -> Option<Fields<'a>> {
+        let place = usize::try_from(self.nearest()?.place).ok()?;
+        Fields::at(self.input, place.checked_add(HEADER + offset)?)
     }
 
     fn nearest(&self) -> Option<&Entry> {

@@ -4,6 +4,7 @@ mod accepted;
 mod alphas;
 mod answer;
 mod arguments;
+mod artwork;
 mod asked;
 mod beginning;
 mod blocks;

@@ -3,7 +3,7 @@
 //! rules all are told.
 
 use crate::fields::Fields;
-use crate::holder::{Chunk, Which};
+use crate::holder::Which;
 use crate::judged::Judged;
 use crate::psp::ffi::{Rect, LAYER_LIMIT, SIDE_LIMIT};
 use crate::shape;
@@ -78,7 +78,7 @@ const MASK_BORDER: Next = |judged| border_advice(judged, 2);
 
 /// From a border's corner a rectangle is counted otherwise only if that is away from (0,0).
 fn border_advice(judged: &Judged, bitmap: u32) -> &'static str {
-    match judged.holder().map(|chunk| chunk.area(bitmap).border) {
+    match judged.border(bitmap) {
         Some(border) if (border.left, border.top) != (0, 0) => FROM_THE_CORNER,
         _ => SAVE_AGAIN,
     }
@@ -233,21 +233,17 @@ const CORNERS_ARE: &str = "coordinates are -32,768 to 32,767, corners must be in
 
 /// The saved rectangle of a bitmap's planes, with the one around it.
 fn saved(judged: &Judged, bitmap: u32, around: &str) -> Option<String> {
-    let border = judged.holder()?.area(bitmap).border;
     Some(format!(
         "sides are 0 to {}, {}, and it must lie inside the {} {} unless it is empty",
         grouped(SIDE_LIMIT),
         CORNERS_ARE,
         around,
-        corners(&border)
+        corners(&judged.border(bitmap)?)
     ))
 }
 
 fn channels(judged: &Judged) -> Option<String> {
-    let bitmaps = match judged.holder()? {
-        Chunk::Layer(layer) => layer.bitmaps.into(),
-        _ => return None,
-    };
+    let bitmaps = judged.bitmaps()?.into();
     let depth = judged.image()?.depth;
     let colours = if depth == 24 { 3 } else { 1 };
     Some(format!(
@@ -281,7 +277,7 @@ fn channel_type(judged: &Judged) -> Option<String> {
 fn plane_length(judged: &Judged) -> Option<String> {
     let bitmap = judged.channel()?.bitmap.into();
     let bits = shape::bits(&judged.image()?, bitmap);
-    let [_, _, width, height] = shape::sides(&judged.holder()?.area(bitmap).saved);
+    let [_, _, width, height] = shape::sides(&judged.saved(bitmap)?);
     let permitted = match shape::lengths(width, height, bits) {
         (padded, Some(short)) => {
             let [padded, short] = [padded, short].map(grouped);

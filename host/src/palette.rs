@@ -1,7 +1,8 @@
 //! `psp palette`: the palette's entries, or a grey ramp.
 
-use crate::accepted::{self, Accepted, Input, ROOM};
+use crate::accepted::{self, Input, ROOM};
 use crate::arguments::Arguments;
+use crate::artwork::Artwork;
 use crate::columns::{Columns, Side};
 use crate::failure::Failure;
 use crate::output;
@@ -19,7 +20,7 @@ without a palette. At depth 24 there is none.
 
 pub fn run(words: &[OsString]) -> Result<(), Failure> {
     let [file] = Arguments::parse(words, &[])?.operands("palette FILE")?;
-    let file = Accepted::of(Input::artwork(&file, "palette")?)?;
+    let file = Artwork::accepted(Input::artwork(&file, "palette")?)?;
     let ramp = ramp();
     let working = Working::listing(&file.bytes);
     let view = psp::palette(&file.bytes, ROOM, &ramp);

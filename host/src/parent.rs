@@ -35,20 +35,17 @@ impl Parent {
     pub fn of(entry: &Entry, judged: &Judged) -> Option<Parent> {
         let which = Which::of(entry);
         let (image, chunk) = (judged.image()?, judged.chunk());
-        let (announced, announced_at) = match entry.id {
+        let announced_at = match entry.id {
             _ if entry.skipped != 0 => return None,
-            BANK => (image.layers, count_at(IMAGE, FILE_HEADER + HEADER)),
-            ALPHA_BANK => (Fields::at(judged.input, chunk)?.word()?, chunk),
-            id => {
-                let holder = judged.holder().filter(|_| which.is_some())?;
-                (holder.channels(), count_at(id, chunk))
-            }
+            BANK => count_at(IMAGE, FILE_HEADER + HEADER),
+            ALPHA_BANK => chunk,
+            id => which.map(|_| count_at(id, chunk))?,
         };
         Some(Parent {
             which,
             id: entry.id,
             end: chunk.saturating_add(judged.block.total as usize),
-            announced,
+            announced: Fields::at(judged.input, announced_at)?.word()?,
             announced_at,
             found: 0,
             codes: Vec::new(),

@@ -1,11 +1,12 @@
 //! `psp plane`: one plane, placed on a canvas of the image's size.
 
-use crate::accepted::{self, Accepted, Input};
+use crate::accepted::{self, Input};
 use crate::answer;
 use crate::arguments::{Arguments, Known};
+use crate::artwork::Artwork;
+use crate::blocks::Holding;
 use crate::destination;
 use crate::failure::Failure;
-use crate::holder::Which;
 use crate::memory;
 use crate::output;
 use crate::psp::ffi::{ImageChunk, Rect, ACCEPTED};
@@ -42,12 +43,13 @@ pub fn run(words: &[OsString]) -> Result<(), Failure> {
     let arguments = Arguments::parse(words, &[Known::Valued("-o")])?;
     let wrong = || Failure::Use(format!("the command is psp {}", LINE));
     let words = Words::of(&arguments)?.ok_or_else(wrong)?;
-    let file = Accepted::of(Input::artwork(words.file, "plane")?)?;
-    let which = file.holders().find(|&which| words.wanted.is(which));
-    let which = which.ok_or_else(|| words.wanted.absent(file.holders()))?;
-    let channel = *channel(&file, which, words.codes.as_ref())?;
+    let file = Artwork::accepted(Input::artwork(words.file, "plane")?)?;
+    let holding = file.holdings().find(|of| words.wanted.is(of.which));
+    let holding = holding.ok_or_else(|| words.wanted.absent(file.there()))?;
+    let channel = *channel(&holding, words.codes.as_ref())?;
+    let saved = file.chunk(&holding)?.area(channel.bitmap).saved;
     let identity = file.identity;
-    let picture = Picture::of(file, which, &channel)?;
+    let picture = Picture::of(file, saved, &channel)?;
     let parts = [picture.header.as_bytes(), &picture.canvas];
     destination::write(words.out, &parts, identity)
 }
@@ -88,23 +90,19 @@ impl<'a> Words<'a> {
 }
 
 /// The channel that is wanted: of a layer the one with these codes, otherwise the only one.
-fn channel<'a>(
-    file: &'a Accepted,
-    which: Which,
-    codes: Option<&Codes>,
-) -> Result<&'a Entry, Failure> {
-    let mut channels = file.channels(which).iter();
+fn channel<'a>(holding: &Holding<'a>, codes: Option<&Codes>) -> Result<&'a Entry, Failure> {
+    let mut channels = holding.channels.iter();
     match codes {
         Some([bitmap, channel]) => {
             let is_it = |entry: &&Entry| bitmap.is(entry.bitmap) && channel.is(entry.channel);
             channels.find(is_it).ok_or_else(|| {
-                let channels = file.channels(which).iter();
+                let channels = holding.channels.iter();
                 let has: Vec<_> = channels.map(|of| (of.bitmap, of.channel)).collect();
-                wanted::no_channel(which, &has, [bitmap, channel])
+                wanted::no_channel(holding.which, &has, [bitmap, channel])
             })
         }
         None => {
-            let none = || Failure::Absent(format!("{} has no channel", which));
+            let none = || Failure::Absent(format!("{} has no channel", holding.which));
             channels.next().ok_or_else(none)
         }
     }
@@ -119,10 +117,9 @@ struct Picture {
 impl Picture {
     /// The picture of a channel. The file is let go as soon as its plane is read, since it may be as
     /// long as a canvas, and the plane as soon as it is placed.
-    fn of(file: Accepted, which: Which, entry: &Entry) -> Result<Picture, Failure> {
-        let image = file.image()?;
+    fn of(file: Artwork, saved: Rect, entry: &Entry) -> Result<Picture, Failure> {
+        let image = file.image().ok_or_else(no_image)?;
         let bits = shape::bits(&image, entry.bitmap);
-        let saved = file.chunk(which)?.area(entry.bitmap).saved;
         if let Some(sentence) = memory::sentence(entry, sides(&image), bits) {
             output::say(&sentence);
         }
@@ -136,13 +133,18 @@ impl Picture {
     }
 }
 
+/// By the proof an accepted file has one; were it otherwise, there would be no canvas.
+fn no_image() -> Failure {
+    Failure::Unreadable("the listing has no image".to_string())
+}
+
 /// Width and height of an image.
 fn sides(image: &ImageChunk) -> [u32; 2] {
     [image.width, image.height].map(i32::unsigned_abs)
 }
 
 /// The plane at one byte a pixel.
-fn plane(file: &Accepted, entry: &Entry, image: &ImageChunk, bits: u16) -> Result<Plane, Failure> {
+fn plane(file: &Artwork, entry: &Entry, image: &ImageChunk, bits: u16) -> Result<Plane, Failure> {
     let [start, stored, length] =
         [entry.start, entry.stored, entry.plane].map(|number| number as usize);
     let mut plane = accepted::zeros(length)?;

@@ -1,15 +1,35 @@
-//! The command's own reading of fields shows what the library's views show, over the sample files
-//! of the current folder and their beginnings. Built and run by host/check.
+//! What the command shows of an image, of layers, selections and alpha channels is what the library's
+//! views show, over the sample files of the current folder and their beginnings, of which the views
+//! show nothing. Built and run by host/check.
 
 extern crate psp as library;
 
-// Here only chunks are asked for.
+// Here only what is found is asked for.
 #[allow(dead_code)]
-#[path = "../src/fields.rs"]
-mod fields;
-#[allow(dead_code)]
-#[path = "../src/holder.rs"]
-mod holder;
+#[path = "../src"]
+mod command {
+    pub mod accepted;
+    pub mod answer;
+    pub mod arguments;
+    pub mod artwork;
+    pub mod asked;
+    pub mod blocks;
+    pub mod buffer;
+    pub mod failure;
+    pub mod fields;
+    pub mod holder;
+    pub mod identity;
+    pub mod judged;
+    pub mod lines;
+    pub mod name;
+    pub mod named;
+    pub mod output;
+    pub mod saved;
+    pub mod shape;
+    pub mod words;
+    pub mod working;
+}
+use command::*;
 
 /// The library with document 01's numbers, under the name that the command's modules use.
 mod psp {
@@ -17,92 +37,130 @@ mod psp {
     pub use library::numbers::*;
 }
 
-use crate::holder::Chunk;
-use crate::psp::Entry;
+use crate::accepted::Input;
+use crate::artwork::Artwork;
+use crate::holder::{Chunk, Holder, Which};
 use std::fs;
 
 const ROOM: usize = usize::MAX;
 
-/// The entries of an input whose blocks are known, and the answer's number.
-fn listed(input: &[u8]) -> (u32, Vec<Entry>) {
-    let room = psp::count(input, ROOM).count;
-    let mut table = vec![0; room * psp::ffi::ENTRY_NUMBERS];
-    let mut entries = vec![Entry::default(); room];
-    let answer = psp::list_records(input, &mut table, &mut entries);
-    entries.retain(|entry| entry.skipped == 0);
-    (answer.number, entries)
+/// An input as the command has it, and the answer's number.
+fn listed(bytes: &[u8]) -> (u32, Artwork) {
+    let (answer, table) = accepted::list(bytes).expect("memory");
+    let input = Input {
+        bytes: bytes.to_vec(),
+        identity: None,
+        size: None,
+    };
+    (answer.number, Artwork::listed(input, &table))
 }
 
-/// Compares an entry's fields, read from a beginning, with the views of the whole file; every field
-/// is in the text of a chunk, and a NaN's bits beside it.
-fn compare(beginning: &[u8], entry: &Entry, whole: &[u8]) {
-    match entry.id {
-        0 => {
-            let found = fields::image(beginning, entry).expect("an image chunk");
-            let shown = psp::image_facts(whole, ROOM).image;
-            assert_eq!(format!("{:?}", found), format!("{:?}", shown));
-        }
-        4 | 6 | 8 => {
-            let found = fields::holder(beginning, entry).expect("a chunk");
-            let shown = shown(entry, whole);
-            assert_eq!(format!("{:?}", found), format!("{:?}", shown));
-            let name = match entry.id {
-                4 => Some(psp::name(whole, ROOM, entry.layer).bytes),
-                8 => Some(psp::alpha_name(whole, ROOM, entry.layer).bytes),
-                _ => None,
-            };
-            assert_eq!(found.name(), name);
-        }
-        _ => {}
+fn holders(file: &Artwork) -> Vec<Holder> {
+    file.holders_of(|_| true).expect("what is listed")
+}
+
+/// Compares what is found of a beginning with the views of the whole file; every field is in the text
+/// of a chunk, and a NaN's bits beside it. Gives how many hold planes.
+fn compare(beginning: &Artwork, whole: &[u8]) -> usize {
+    if let Some(found) = beginning.image() {
+        let shown = psp::image_facts(whole, ROOM).image;
+        assert_eq!(format!("{:?}", found), format!("{:?}", shown));
     }
+    let holders = holders(beginning);
+    for found in &holders {
+        let (chunk, name) = shown(found.which, whole);
+        assert_eq!(format!("{:?}", found.chunk), format!("{:?}", chunk));
+        assert_eq!(found.name.as_deref(), name);
+    }
+    holders.len()
 }
 
 /// What the views show of a layer, a selection or an alpha channel.
-fn shown(entry: &Entry, whole: &[u8]) -> Chunk {
-    match entry.id {
-        4 => Chunk::Layer(psp::layer_facts(whole, ROOM, entry.layer).layer),
-        6 => Chunk::Selection(psp::selection_facts(whole, ROOM).selection),
-        _ => Chunk::Alpha(psp::alpha_facts(whole, ROOM, entry.layer).alpha),
+fn shown(which: Which, whole: &[u8]) -> (Chunk, Option<&[u8]>) {
+    match which {
+        Which::Layer(k) => (
+            Chunk::Layer(psp::layer_facts(whole, ROOM, k).layer),
+            Some(psp::name(whole, ROOM, k).bytes),
+        ),
+        Which::Selection => {
+            let selection = psp::selection_facts(whole, ROOM).selection;
+            (Chunk::Selection(selection), None)
+        }
+        Which::Alpha(k) => (
+            Chunk::Alpha(psp::alpha_facts(whole, ROOM, k).alpha),
+            Some(psp::alpha_name(whole, ROOM, k).bytes),
+        ),
     }
 }
 
-/// The accepted sample files.
-fn samples() -> Vec<Vec<u8>> {
+/// The sample files that are accepted, or refused, but for those whose length alone is tried.
+fn samples(are_accepted: bool) -> Vec<Vec<u8>> {
     let paths = fs::read_dir(".").expect("a folder").flatten();
     let paths = paths.map(|entry| entry.path());
     let samples = paths.filter(|path| path.extension().map_or(false, |end| end == "psp"));
-    let bytes = samples.map(|path| fs::read(path).expect("a file"));
-    bytes.filter(|bytes| listed(bytes).0 == 0).collect()
+    let short = samples.filter(|path| path.metadata().map_or(false, |data| data.len() < 1 << 20));
+    let bytes = short.map(|path| fs::read(path).expect("a file"));
+    let asked = bytes.filter(|bytes| (listed(bytes).0 == 0) == are_accepted);
+    asked.collect()
 }
 
 #[test]
 fn every_accepted_sample_has_the_fields_that_the_views_show() {
-    let samples = samples();
+    let samples = samples(true);
     assert!(samples.len() >= 8, "{} samples", samples.len());
-    let mut seen = [0; 9];
+    let [mut selections, mut alphas] = [0; 2];
     for whole in &samples {
-        let (_, entries) = listed(whole);
-        assert!(entries.iter().any(|entry| entry.id == 4));
-        for entry in &entries {
-            compare(whole, entry, whole);
-            seen[entry.id as usize] += 1;
+        let (number, file) = listed(whole);
+        assert_eq!(number, 0);
+        assert!(file.image().is_some() && file.there().any(Which::is_layer));
+        compare(&file, whole);
+        for which in file.there() {
+            selections += usize::from(which == Which::Selection);
+            alphas += usize::from(matches!(which, Which::Alpha(_)));
         }
     }
-    assert!(seen[6] >= 2 && seen[8] >= 4, "{:?}", seen);
+    assert!(selections >= 2 && alphas >= 4, "{} {}", selections, alphas);
 }
 
+/// Every beginning of the shorter ones, and some of the others.
 #[test]
 fn a_beginning_has_the_fields_of_the_whole() {
     let mut refused = 0;
-    for whole in samples().iter().filter(|whole| whole.len() < 10_000) {
-        for length in (0..whole.len()).step_by(131) {
-            let beginning = &whole[..length];
-            let (number, entries) = listed(beginning);
-            refused += usize::from(number != 0 && !entries.is_empty());
-            entries
-                .iter()
-                .for_each(|entry| compare(beginning, entry, whole));
+    for whole in samples(true).iter().filter(|whole| whole.len() < 10_000) {
+        let step = if whole.len() < 2_000 { 1 } else { 131 };
+        let mut found = 0;
+        for length in (0..whole.len()).step_by(step) {
+            let (number, file) = listed(&whole[..length]);
+            refused += usize::from(number != 0 && file.image().is_some());
+            let before = found;
+            found = compare(&file, whole);
+            // More input takes none of them back.
+            assert!(found >= before);
         }
     }
-    assert!(refused > 50, "{} beginnings", refused);
+    assert!(refused > 5_000, "{} beginnings", refused);
+}
+
+/// Whatever they are refused for. Here the bytes themselves are looked at.
+#[test]
+fn a_refused_sample_shows_all_that_is_listed() {
+    let mut seen = 0;
+    for bytes in samples(false) {
+        let (_, file) = listed(&bytes);
+        let holders = holders(&file);
+        assert_eq!(holders.len(), file.there().count());
+        for (holding, found) in file.holdings().zip(&holders) {
+            let chunk = &bytes[holding.entry.place as usize + fields::HEADER..];
+            let (name, counted) = match found.which {
+                Which::Layer(_) => (chunk[..256].split(|&byte| byte == 0).next(), 373),
+                Which::Selection => (None, 34),
+                Which::Alpha(_) => (chunk[..256].split(|&byte| byte == 0).next(), 290),
+            };
+            assert_eq!(found.name.as_deref(), name);
+            let channels = [chunk[counted], chunk[counted + 1]];
+            assert_eq!(found.chunk.channels(), u16::from_le_bytes(channels));
+            seen += 1;
+        }
+    }
+    assert!(seen > 50, "{} of refused samples", seen);
 }
