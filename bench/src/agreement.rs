@@ -4,10 +4,10 @@
 //! The files are all systematic ones of the tests' generator, and random ones of it, valid and damaged;
 //! each random one again with an end cut off, and overwritten where its blocks have their fields.
 
+use crate::generator::case::Case;
+use crate::generator::cases;
+use crate::generator::random::Random;
 use crate::library::numbers as library;
-use crate::reference::case::Case;
-use crate::reference::cases;
-use crate::reference::random::Random;
 use crate::sides::{Answer, Lister, ENTRY_NUMBERS};
 use std::fs;
 

@@ -35,9 +35,16 @@ mod arm;
 #[path = "../../host/src/psp/lib.rs"]
 mod library;
 
-#[allow(dead_code)]
 #[path = "../../tests/reference/src"]
 mod reference {
+    #[allow(dead_code)]
+    pub mod psp;
+}
+
+// The generator of files, with an implementation of its own: what it needs of it is not what is timed.
+#[allow(dead_code)]
+#[path = "../../tests/reference/src"]
+mod generator {
     pub mod case;
     pub mod cases;
     pub mod opened;
@@ -47,8 +54,8 @@ mod reference {
     pub mod write;
 }
 
-// The generator's own paths start at the root.
-use reference::{case, opened, psp, random, samples, write};
+// Its paths start at the root.
+use generator::{case, opened, psp, random, samples, write};
 
 use clock::Clock;
 
