@@ -15,6 +15,7 @@ extern "C" {
         table: *mut u32,
         numbers: usize,
     );
+    fn __real_psp_count(answer: *mut Listed, input: *const u8, length: usize, room: usize);
     fn __real_psp_read_plane(
         answer: *mut Plane,
         input: *const u8,
@@ -39,6 +40,15 @@ pub unsafe extern "C" fn __wrap_psp_list(
 ) -> Listed {
     let mut answer = MaybeUninit::uninit();
     __real_psp_list(answer.as_mut_ptr(), input, length, table, numbers);
+    answer.assume_init()
+}
+
+/// # Safety
+/// As `psp_count`.
+#[no_mangle]
+pub unsafe extern "C" fn __wrap_psp_count(input: *const u8, length: usize, room: usize) -> Listed {
+    let mut answer = MaybeUninit::uninit();
+    __real_psp_count(answer.as_mut_ptr(), input, length, room);
     answer.assume_init()
 }
 

@@ -6,14 +6,19 @@ pub const HEADER: usize = 14;
 /// Entries of a grey picture: image, bank, layer, channel.
 pub const GREY_ENTRIES: usize = 4;
 
-/// Where a file has its empty blocks.
+/// Where a file has its empty blocks. They have an unknown id, but for creators.
 #[derive(Clone, Copy, Debug, PartialEq, Eq)]
 pub enum Among {
     MainBeforeBank,
     MainAfterBank,
     Bank,
     Layer,
+    /// Creator blocks, after the bank.
+    Creators,
 }
+
+const CREATOR: u16 = 1;
+const UNKNOWN: u16 = 12;
 
 /// A grey picture of one layer and one channel, whose content is stored in that form.
 pub fn grey(side: u32, compression: u16, content: &[u8]) -> Vec<u8> {
@@ -22,27 +27,29 @@ pub fn grey(side: u32, compression: u16, content: &[u8]) -> Vec<u8> {
     [file_header(), image(side, compression, 8, 1), bank].concat()
 }
 
-/// A picture of so many layers at depth 24, each with three colours and two masks of one pixel.
-pub fn layered(layers: u16) -> Vec<u8> {
-    let pixel = [0; 4];
+/// A picture of so many layers at depth 24, each with three colours and two masks of equal sides,
+/// which are stored raw.
+pub fn layered(layers: u16, side: u32) -> Vec<u8> {
+    let plane = vec![0; plane_length(side) as usize];
     let channels = [(0, 1), (0, 2), (0, 3), (1, 0), (2, 0)]
-        .map(|(bitmap, code)| channel(bitmap, code, plane_length(1), &pixel))
+        .map(|(bitmap, code)| channel(bitmap, code, plane_length(side), &plane))
         .concat();
-    let layer = layer(1, 3, 5, &channels);
+    let layer = layer(side, 3, 5, &channels);
     let bank = block(3, 0, &[&layer.repeat(usize::from(layers))]);
-    [file_header(), image(1, 0, 24, layers), bank].concat()
+    [file_header(), image(side, 0, 24, layers), bank].concat()
 }
 
 /// Blocks of an unknown id and no data.
 pub fn empty_blocks(count: usize) -> Vec<u8> {
-    block(12, 0, &[]).repeat(count)
+    block(UNKNOWN, 0, &[]).repeat(count)
 }
 
-/// A grey picture of one pixel, with blocks of an unknown id and no data, as many as fit the length.
-/// Gives their number too.
+/// A grey picture of one pixel, with blocks without data, as many as fit the length. Gives their
+/// number too.
 pub fn with_empty_blocks(among: Among, length: usize) -> (Vec<u8>, usize) {
     let count = (length - grey(1, 0, &[0; 4]).len()) / HEADER;
     let empty = |here| match here == among {
+        true if here == Among::Creators => block(CREATOR, 0, &[]).repeat(count),
         true => empty_blocks(count),
         false => Vec::new(),
     };
@@ -50,7 +57,7 @@ pub fn with_empty_blocks(among: Among, length: usize) -> (Vec<u8>, usize) {
     let layer = layer(1, 1, 1, &[pixel, empty(Among::Layer)].concat());
     let bank = block(3, 0, &[&layer, &empty(Among::Bank)]);
     let before = empty(Among::MainBeforeBank);
-    let after = empty(Among::MainAfterBank);
+    let after = [empty(Among::MainAfterBank), empty(Among::Creators)].concat();
     let file = [file_header(), image(1, 0, 8, 1), before, bank, after].concat();
     (file, count)
 }

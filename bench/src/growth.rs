@@ -1,11 +1,11 @@
-//! Listings of empty blocks up to the longest input. The library alone: its peer takes as much memory
-//! for its entries as the table has, and there is not always room for both.
+//! Listings of empty blocks up to the longest input. The library alone: the reference takes as much
+//! memory for its entries as the table has, and there is not always room for both.
 
 use crate::clock::Clock;
 use crate::files::{self, Among, GREY_ENTRIES};
 use crate::listings::PLACES;
 use crate::measure::{counted, turns};
-use crate::sides::{Side, ENTRY_NUMBERS};
+use crate::sides::{Lister, ENTRY_NUMBERS};
 
 pub const MEBIBYTES: [usize; 3] = [256, 512, 1_024];
 
@@ -35,7 +35,7 @@ fn growth(clock: &Clock, among: Among, name: &str) {
         let (file, blocks) = &listed[at];
         let table = &mut table[..(GREY_ENTRIES + blocks) * ENTRY_NUMBERS];
         table.fill(0);
-        let (cost, answer) = counted(clock, || Side::Library.list(file, table));
+        let (cost, answer) = counted(clock, || Lister::Library.list(file, table));
         assert_eq!(answer, (0, file.len(), GREY_ENTRIES + blocks));
         check(file.len(), table);
         cost

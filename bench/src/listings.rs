@@ -1,20 +1,28 @@
-//! Listing a file of many layers, and files that are nearly all empty blocks.
+//! Listing a file of many layers, and files that are nearly all empty blocks, with a table and by a
+//! count alone.
 
 use crate::clock::Clock;
 use crate::files::{self, Among, GREY_ENTRIES};
-use crate::measure::{counted, interleaved, Costs};
-use crate::sides::{Side, ENTRY_NUMBERS};
+use crate::measure::{counted, rounds, Spread};
+use crate::sides::{Lister, ENTRY_NUMBERS};
 
-const LAYERS: usize = 64;
+pub const LAYERS: u16 = 64;
+
+/// Sides of planes that fill 60 MiB in so many layers.
+pub const FILLING: u32 = 442;
 
 /// Image, bank, and each layer with its five channels.
-const LAYERED_ENTRIES: usize = 2 + LAYERS * 6;
+const LAYERED_ENTRIES: usize = 2 + LAYERS as usize * 6;
 
 /// One listing of so few entries is too short to be measured.
 const REPEATED: usize = 1_000;
 
-/// Bytes of a file of empty blocks whose instructions are counted.
-const COUNTED: usize = 1 << 20;
+/// Bytes of a file of empty blocks whose table stays in a cache, so that it is not the memory that is
+/// measured. Its instructions are counted too.
+const CACHED: usize = 1 << 20;
+
+/// The times that it is listed at one look at the clock.
+const REPEATED_CACHED: usize = 16;
 
 pub const MEBIBYTES: [usize; 3] = [16, 32, 64];
 
@@ -25,121 +33,128 @@ pub const PLACES: [(Among, &str); 4] = [
     (Among::Layer, "in a layer"),
 ];
 
+const CREATORS: (Among, &str) = (Among::Creators, "creators, after the bank");
+
 /// A file, and the entries that its listing must give.
 struct Listed {
     file: Vec<u8>,
     entries: usize,
 }
 
-pub fn report(clock: &Clock) {
-    layers(clock);
-    println!(
-        "| Empty blocks | MiB | Blocks | Library, {0} | Peer, {0} | Peer / library \
-         | Library, {1} a block | growth | Peer, {1} a block | growth |",
-        clock.millions(),
-        clock.ones()
-    );
-    println!("|---|--:|--:|--:|--:|--:|--:|--:|--:|--:|");
-    for (among, name) in PLACES {
-        growth(clock, among, name);
+impl Listed {
+    fn layers(side: u32) -> Listed {
+        Listed {
+            file: files::layered(LAYERS, side),
+            entries: LAYERED_ENTRIES,
+        }
+    }
+
+    fn blocks(among: Among, length: usize) -> Listed {
+        let (file, blocks) = files::with_empty_blocks(among, length);
+        let entries = GREY_ENTRIES + blocks;
+        Listed { file, entries }
+    }
+
+    /// A file whose instructions are counted, by its word.
+    fn counted(word: &str) -> Listed {
+        match word {
+            "layers" => Listed::layers(1),
+            "after" => Listed::blocks(Among::MainAfterBank, CACHED),
+            "before" => Listed::blocks(Among::MainBeforeBank, CACHED),
+            "bank" => Listed::blocks(Among::Bank, CACHED),
+            "layer" => Listed::blocks(Among::Layer, CACHED),
+            "creators" => Listed::blocks(Among::Creators, CACHED),
+            _ => panic!("FILE is layers, after, before, bank, layer or creators"),
+        }
     }
 }
 
-fn layers(clock: &Clock) {
+pub fn report(clock: &Clock) {
     println!(
-        "| Listing | Entries | Library, {0} an entry | Peer, {0} an entry | Peer / library |",
+        "| File | MiB | Entries | Library, {0} an entry | growth | Walker, {0} | Walker / library \
+         | Reference / library | Count alone: library, {0} | Walker, {0} | Walker / library |",
         clock.ones()
     );
-    println!("|---|--:|--:|--:|--:|");
-    let listed = Listed {
-        file: files::layered(LAYERS as u16),
-        entries: LAYERED_ENTRIES,
-    };
-    let costs = list(clock, &[listed], REPEATED).remove(0);
-    let entry = costs.each(LAYERED_ENTRIES * REPEATED);
-    println!(
-        "| {LAYERS} layers of five channels | {LAYERED_ENTRIES} | {:.1} | {:.1} | {:.2} |\n",
-        entry.library,
-        entry.peer,
-        entry.ratio()
-    );
+    println!("|---|--:|--:|--:|--:|--:|--:|--:|--:|--:|--:|");
+    let name = format!("{LAYERS} layers of five channels");
+    rows(clock, &name, &[Listed::layers(1)], REPEATED);
+    let name = format!("{LAYERS} layers, filled by their channels");
+    rows(clock, &name, &[Listed::layers(FILLING)], REPEATED);
+    for (among, name) in PLACES.into_iter().chain([CREATORS]) {
+        let name = format!("empty blocks: {name}");
+        let cached = [Listed::blocks(among, CACHED)];
+        rows(clock, &name, &cached, REPEATED_CACHED);
+        let listed = MEBIBYTES.map(|mebibytes| Listed::blocks(among, mebibytes << 20));
+        rows(clock, &name, &listed, 1);
+    }
+    println!();
 }
 
-/// One kind of file at three lengths. Growth is what a block costs beside what it costs in the
+/// One kind of file at some lengths. Growth is what an entry costs beside what it costs in the
 /// shortest; it must stay at 1.
-fn growth(clock: &Clock, among: Among, name: &str) {
-    let listed = MEBIBYTES.map(|mebibytes| {
-        let (file, blocks) = files::with_empty_blocks(among, mebibytes << 20);
-        let entries = GREY_ENTRIES + blocks;
-        Listed { file, entries }
-    });
-    let costs = list(clock, &listed, 1);
-    let block = |at: usize| costs[at].each(listed[at].entries - GREY_ENTRIES);
-    for (at, costs) in costs.iter().enumerate() {
+fn rows(clock: &Clock, name: &str, listed: &[Listed], times: usize) {
+    let costs = list(clock, listed, times);
+    let shortest = costs[0][0].median;
+    for (Listed { file, entries }, costs) in listed.iter().zip(costs) {
+        let [library, walker, reference, count, walker_count] = costs.map(|cost| cost.median);
         println!(
-            "| {name} | {} | {} | {:.1} | {:.1} | {:.2} | {:.1} | {:.2} | {:.1} | {:.2} |",
-            MEBIBYTES[at],
-            listed[at].entries - GREY_ENTRIES,
-            costs.library / 1e6,
-            costs.peer / 1e6,
-            costs.ratio(),
-            block(at).library,
-            block(at).library / block(0).library,
-            block(at).peer,
-            block(at).peer / block(0).peer
+            "| {name} | {} | {entries} | {library:.2} | {:.2} | {walker:.2} | {:.2} | {:.2} \
+             | {count:.2} | {walker_count:.2} | {:.2} |",
+            mebibytes(file),
+            library / shortest,
+            walker / library,
+            reference / library,
+            walker_count / count
         );
     }
 }
 
-/// One side lists the file of many layers, or one of empty blocks, so many times.
-pub fn repeat(side: &str, file: &str, times: &str) {
-    let side = match side {
-        "library" => Side::Library,
-        "peer" => Side::Peer,
-        _ => panic!("SIDE is library or peer"),
-    };
-    let (file, entries) = match file {
-        "layers" => (files::layered(LAYERS as u16), LAYERED_ENTRIES),
-        "blocks" => {
-            let (file, blocks) = files::with_empty_blocks(Among::MainAfterBank, COUNTED);
-            (file, GREY_ENTRIES + blocks)
-        }
-        _ => panic!("FILE is layers or blocks"),
-    };
-    let mut table = vec![0; entries * ENTRY_NUMBERS];
-    for _ in 0..times.parse().expect("TIMES is a number") {
-        let answer = side.list(&file, &mut table);
-        assert_eq!(answer, (0, file.len(), entries));
+/// A whole number, or the first digits of a small one.
+fn mebibytes(file: &[u8]) -> String {
+    let mebibytes = file.len() as f64 / f64::from(1 << 20);
+    match mebibytes < 0.5 {
+        true => format!("{mebibytes:.2}"),
+        false => format!("{mebibytes:.0}"),
     }
 }
 
-/// The costs of listing each file so many times, into a table that just has room for it.
-fn list(clock: &Clock, listed: &[Listed], times: usize) -> Vec<Costs> {
+/// What an entry costs each lister when it lists a file so many times, into a table that just has
+/// room for it.
+fn list(clock: &Clock, listed: &[Listed], times: usize) -> Vec<[Spread; Lister::ALL.len()]> {
     check(listed);
     let mut table = table_for(listed);
-    interleaved(clock, listed.len(), |at, side| {
+    let costs = rounds(clock, listed.len(), |at, lister| {
+        let lister = Lister::ALL[lister];
         let Listed { file, entries } = &listed[at];
         let table = &mut table[..entries * ENTRY_NUMBERS];
-        table.fill(0);
-        let (cost, _) = counted(clock, || {
+        if !lister.is_count() {
+            table.fill(0);
+        }
+        let (cost, ()) = counted(clock, || {
             for _ in 0..times {
-                assert_eq!(side.list(file, table), (0, file.len(), *entries));
+                assert_eq!(lister.list(file, table), (0, file.len(), *entries));
             }
         });
         cost
-    })
+    });
+    let each = |(costs, listed): ([Spread; 5], &Listed)| {
+        costs.map(|cost| cost.each(listed.entries * times))
+    };
+    costs.into_iter().zip(listed).map(each).collect()
 }
 
-/// Both sides give the same table, number by number.
+/// All give the same answer, and the same table, number by number.
 fn check(listed: &[Listed]) {
     let mut ours = table_for(listed);
     let mut theirs = table_for(listed);
     for Listed { file, entries } in listed {
         let used = entries * ENTRY_NUMBERS;
         let answer = (0, file.len(), *entries);
-        assert_eq!(Side::Library.list(file, &mut ours[..used]), answer);
-        assert_eq!(Side::Peer.list(file, &mut theirs[..used]), answer);
-        assert!(ours[..used] == theirs[..used], "the tables differ");
+        assert_eq!(Lister::Library.list(file, &mut ours[..used]), answer);
+        for lister in Lister::ALL {
+            assert_eq!(lister.list(file, &mut theirs[..used]), answer);
+            assert!(ours[..used] == theirs[..used], "the tables differ");
+        }
     }
 }
 
@@ -147,4 +162,23 @@ fn check(listed: &[Listed]) {
 fn table_for(listed: &[Listed]) -> Vec<u32> {
     let most = listed.iter().map(|listed| listed.entries).max();
     vec![0; most.unwrap_or(0) * ENTRY_NUMBERS]
+}
+
+/// One lister lists a file so many times.
+pub fn repeat(lister: &str, file: &str, times: &str) {
+    let lister = Lister::ALL
+        .into_iter()
+        .find(|known| known.name() == lister)
+        .expect("LISTER is library, walker, reference, library-count or walker-count");
+    let Listed { file, entries } = Listed::counted(file);
+    let mut table = vec![0; entries * ENTRY_NUMBERS];
+    for _ in 0..times.parse().expect("TIMES is a number") {
+        let answer = lister.list(&file, &mut table);
+        assert_eq!(answer, (0, file.len(), entries));
+    }
+}
+
+/// The entries of a file whose instructions are counted.
+pub fn entries(file: &str) -> usize {
+    Listed::counted(file).entries
 }

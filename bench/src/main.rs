@@ -1,12 +1,14 @@
 //! Figures of the proved library beside its peers, in one process.
 //!
 //! `figures` prints planes, listings and views, `figures planes` the first of them, `figures reading`
-//! the reading of planes alone, `figures memory` the stack and the memory of long listings; `figures
-//! growth` and `figures longest` print listings, and their stack and memory, up to the longest input.
-//! `figures list SIDE FILE TIMES` and `figures read READER PLANE TIMES` list and read and print
-//! nothing, so that a tool can count their instructions. Every answer is checked; a wrong one stops
-//! the program.
+//! the reading of planes alone, `figures listings` listings and views, `figures memory` the stack and
+//! the memory of long listings; `figures growth` and `figures longest` print listings, and their stack
+//! and memory, up to the longest input. `figures walker SEED COUNT` compares the tuned walker with the
+//! library. `figures list LISTER FILE TIMES` and `figures read READER PLANE TIMES` list and read and
+//! print nothing, so that a tool can count their instructions; `figures entries FILE` says how many
+//! entries such a listing has. Every answer is checked; a wrong one stops the program.
 
+mod agreement;
 mod clock;
 mod files;
 mod growth;
@@ -18,6 +20,7 @@ mod packing;
 mod pictures;
 mod reading;
 mod sides;
+mod walker;
 
 // The library's boundary on Arm is wrapped for listings, reading and packing only.
 #[cfg(target_arch = "x86_64")]
@@ -38,6 +41,22 @@ mod reference {
     pub mod psp;
 }
 
+// The generator of files, with an implementation of its own: what it needs of it is not what is timed.
+#[allow(dead_code)]
+#[path = "../../tests/reference/src"]
+mod generator {
+    pub mod case;
+    pub mod cases;
+    pub mod opened;
+    pub mod psp;
+    pub mod random;
+    pub mod samples;
+    pub mod write;
+}
+
+// Its paths start at the root.
+use generator::{case, opened, psp, random, samples, write};
+
 use clock::Clock;
 
 fn main() {
@@ -47,20 +66,24 @@ fn main() {
         [] => {
             let clock = Clock::open();
             planes(&clock);
-            listings::report(&clock);
-            #[cfg(target_arch = "x86_64")]
-            views::report(&clock);
+            listings(&clock);
         }
         ["planes"] => planes(&Clock::open()),
         ["reading"] => reading::report(&Clock::open()),
+        ["listings"] => listings(&Clock::open()),
         ["memory"] => memory::report(),
         ["growth"] => growth::report(&Clock::open()),
         ["longest"] => memory::longest(),
-        ["list", side, file, times] => listings::repeat(side, file, times),
+        ["walker", seed, count] => {
+            let number = |word: &str| word.parse().expect("SEED and COUNT are numbers");
+            agreement::report(number(seed), number(count) as usize);
+        }
+        ["entries", file] => println!("{}", listings::entries(file)),
+        ["list", lister, file, times] => listings::repeat(lister, file, times),
         ["read", reader, plane, times] => reading::repeat(reader, plane, times),
         _ => panic!(
-            "usage: figures [planes | reading | memory | growth | longest | list SIDE FILE TIMES \
-             | read READER PLANE TIMES]"
+            "usage: figures [planes | reading | listings | memory | growth | longest \
+             | walker SEED COUNT | entries FILE | list LISTER FILE TIMES | read READER PLANE TIMES]"
         ),
     }
 }
@@ -70,4 +93,11 @@ fn planes(clock: &Clock) {
     packed::report(clock);
     #[cfg(target_arch = "x86_64")]
     placing::report(clock);
+}
+
+fn listings(clock: &Clock) {
+    agreement::report(1, agreement::FILES);
+    listings::report(clock);
+    #[cfg(target_arch = "x86_64")]
+    views::report(clock);
 }

@@ -43,14 +43,6 @@ impl Costs {
     pub fn ratio(&self) -> f64 {
         self.peer / self.library
     }
-
-    /// The costs of one of so many equal parts.
-    pub fn each(&self, parts: usize) -> Costs {
-        Costs {
-            library: self.library / parts as f64,
-            peer: self.peer / parts as f64,
-        }
-    }
 }
 
 /// What the clock counts during the work, with the work's result.

@@ -3,13 +3,13 @@
 use crate::files::{self, Among, GREY_ENTRIES};
 use crate::growth;
 use crate::listings::{MEBIBYTES, PLACES};
-use crate::sides::{Side, ENTRY_NUMBERS};
+use crate::sides::{Lister, ENTRY_NUMBERS};
 use std::fs;
 
 pub fn report() {
     println!(
-        "| Empty blocks | MiB | Entries | Stack touched, KiB: library | then peer \
-         | Memory taken, KiB: library | peer |"
+        "| Empty blocks | MiB | Entries | Stack touched, KiB: library | then reference \
+         | Memory taken, KiB: library | reference |"
     );
     println!("|---|--:|--:|--:|--:|--:|--:|");
     for (among, name) in PLACES {
@@ -25,33 +25,34 @@ pub fn longest() {
     println!("|---|--:|--:|--:|--:|");
     for (among, name) in PLACES {
         for mebibytes in growth::MEBIBYTES {
-            let (entries, [(stack, memory)]) = taken(among, mebibytes, [Side::Library]);
+            let (entries, [(stack, memory)]) = taken(among, mebibytes, [Lister::Library]);
             println!("| {name} | {mebibytes} | {entries} | {stack} | {memory} |");
         }
     }
 }
 
 fn row(among: Among, name: &str, mebibytes: usize) {
-    let (entries, [library, peer]) = taken(among, mebibytes, [Side::Library, Side::Peer]);
+    let (entries, [library, reference]) =
+        taken(among, mebibytes, [Lister::Library, Lister::Reference]);
     println!(
         "| {name} | {mebibytes} | {entries} | {} | {} | {} | {} |",
-        library.0, peer.0, library.1, peer.1
+        library.0, reference.0, library.1, reference.1
     );
 }
 
-/// The entries of a file, and what some sides take to list it, one after another: stack and memory.
+/// The entries of a file, and what some listers take for it, one after another: stack and memory.
 fn taken<const COUNT: usize>(
     among: Among,
     mebibytes: usize,
-    sides: [Side; COUNT],
+    listers: [Lister; COUNT],
 ) -> (usize, [(usize, usize); COUNT]) {
     let (file, blocks) = files::with_empty_blocks(among, mebibytes << 20);
     let entries = GREY_ENTRIES + blocks;
     // Not zeros, so that the table's pages are there before the listing.
     let mut table = vec![u32::MAX; entries * ENTRY_NUMBERS];
-    let taken = sides.map(|side| {
+    let taken = listers.map(|lister| {
         let before = peak_from_now();
-        assert_eq!(side.list(&file, &mut table), (0, file.len(), entries));
+        assert_eq!(lister.list(&file, &mut table), (0, file.len(), entries));
         (stack(), peak() - before)
     });
     (entries, taken)

@@ -1,43 +1,114 @@
-//! What views cost, and an entry asked for, where a listing is long: each lists the whole input
-//! again.
+//! What views cost, and an entry asked for, beside one listing into a table: each lists the whole
+//! input again.
 
 use crate::clock::Clock;
 use crate::files::{self, HEADER};
 use crate::library::numbers as library;
-use crate::measure::counted;
+use crate::listings::{FILLING, LAYERS};
+use crate::measure::{counted, turns};
+use crate::sides::ENTRY_NUMBERS;
 
-const LAYERS: u16 = 64;
 const MEBIBYTES: usize = 60;
 
-/// The last entry, and the facts and the name of every layer, measured once.
+/// What is done with a file. The first is what all else is measured by.
+const WORKS: usize = 4;
+
+/// A file, the times that its listing is repeated at one look at the clock, and the rounds.
+struct Viewed {
+    name: &'static str,
+    file: Vec<u8>,
+    times: usize,
+    rounds: usize,
+}
+
+/// An ordinary file, and a hostile one, whose views take a second and more.
 pub fn report(clock: &Clock) {
-    let mut file = files::layered(LAYERS);
-    let blocks = ((MEBIBYTES << 20) - file.len()) / HEADER;
-    file.extend(files::empty_blocks(blocks));
-    let (listing, listed) = counted(clock, || library::count(&file, usize::MAX));
-    assert_eq!((listed.number, listed.place), (0, file.len()));
-    let last = listed.count - 1;
-    let (asking, asked) = counted(clock, || library::entry_at(&file, usize::MAX, last));
-    let place = asked.entry.place as usize;
-    assert_eq!((asked.found, place), (1, file.len() - HEADER));
-    let (views, ()) = counted(clock, || {
-        for k in 0..u32::from(LAYERS) {
-            let facts = library::layer_facts(&file, usize::MAX, k);
-            let name = library::name(&file, usize::MAX, k);
-            assert_eq!((facts.number, name.number), (0, 0));
-        }
-    });
     println!(
-        "\n| Views | MiB | Empty blocks | One listing, {0} | The last entry, {0} \
-         | Entry / listing | {LAYERS} facts and names, {0} |",
+        "| Views of {LAYERS} layers, {MEBIBYTES} MiB | Entries | One listing, {0} | Its count alone \
+         | The last entry | Facts and names, one by one |",
         clock.millions()
     );
-    println!("|---|--:|--:|--:|--:|--:|--:|");
+    println!("|---|--:|--:|--:|--:|--:|");
+    row(clock, &ordinary(clock));
+    row(clock, &hostile(clock));
+    println!();
+}
+
+fn ordinary(clock: &Clock) -> Viewed {
+    Viewed {
+        name: "filled by their channels",
+        file: files::layered(LAYERS, FILLING),
+        times: 100,
+        rounds: clock.rounds(),
+    }
+}
+
+fn hostile(clock: &Clock) -> Viewed {
+    let mut file = files::layered(LAYERS, 1);
+    let blocks = ((MEBIBYTES << 20) - file.len()) / HEADER;
+    file.extend(files::empty_blocks(blocks));
+    Viewed {
+        name: "filled by empty blocks",
+        file,
+        times: 1,
+        rounds: clock.rounds().min(5),
+    }
+}
+
+/// The listing's cost, and all others as multiples of it.
+fn row(clock: &Clock, viewed: &Viewed) {
+    let Viewed {
+        name,
+        file,
+        times,
+        rounds,
+    } = viewed;
+    let entries = library::count(file, usize::MAX).count;
+    let mut table = vec![0; entries * ENTRY_NUMBERS];
+    let costs = turns::<WORKS>(*rounds, 1, |_, work| {
+        table.fill(0);
+        let (cost, ()) = counted(clock, || {
+            for _ in 0..*times {
+                do_work(work, file, &mut table);
+            }
+        });
+        cost
+    });
+    let [listing, count, last, views] = costs[0].map(|cost| cost.median / *times as f64);
     println!(
-        "| {LAYERS} layers | {MEBIBYTES} | {blocks} | {:.1} | {:.1} | {:.2} | {:.1} |",
-        listing as f64 / 1e6,
-        asking as f64 / 1e6,
-        asking as f64 / listing as f64,
-        views as f64 / 1e6
+        "| {name} | {entries} | {:.3} | {:.2} | {:.2} | {:.1} |",
+        listing / 1e6,
+        count / listing,
+        last / listing,
+        views / listing
     );
+}
+
+fn do_work(work: usize, file: &[u8], table: &mut [u32]) {
+    let entries = table.len() / ENTRY_NUMBERS;
+    match work {
+        0 => {
+            let listed = library::list(file, table);
+            assert_eq!((listed.number, listed.count), (0, entries));
+        }
+        1 => {
+            let listed = library::count(file, entries);
+            assert_eq!((listed.number, listed.count), (0, entries));
+        }
+        2 => {
+            let asked = library::entry_at(file, entries, entries - 1);
+            let end = asked.entry.place + asked.entry.owned;
+            assert_eq!((asked.found, end as usize), (1, file.len()));
+        }
+        _ => one_by_one(file, entries),
+    }
+}
+
+/// The facts and the name of every layer, each by a view of its own.
+fn one_by_one(file: &[u8], room: usize) {
+    for k in 0..u32::from(LAYERS) {
+        let facts = library::layer_facts(file, room, k);
+        let name = library::name(file, room, k);
+        assert_eq!((facts.number, name.number), (0, 0));
+    }
 }
