@@ -55,7 +55,7 @@ mod generator {
 }
 
 // Its paths start at the root.
-use generator::{case, opened, psp, random, samples, write};
+use generator::{case, cases, opened, psp, random, samples, write};
 
 use clock::Clock;
 

@@ -1,5 +1,5 @@
 //! What views cost, and an entry asked for, beside one listing into a table: each lists the whole
-//! input again.
+//! input again. Facts and names at the places of a table do not.
 
 use crate::clock::Clock;
 use crate::files::{self, HEADER};
@@ -11,7 +11,7 @@ use crate::sides::ENTRY_NUMBERS;
 const MEBIBYTES: usize = 60;
 
 /// What is done with a file. The first is what all else is measured by.
-const WORKS: usize = 4;
+const WORKS: usize = 5;
 
 /// A file, the times that its listing is repeated at one look at the clock, and the rounds.
 struct Viewed {
@@ -25,10 +25,10 @@ struct Viewed {
 pub fn report(clock: &Clock) {
     println!(
         "| Views of {LAYERS} layers, {MEBIBYTES} MiB | Entries | One listing, {0} | Its count alone \
-         | The last entry | Facts and names, one by one |",
+         | The last entry | Facts and names, one by one | Listed once, then at their places |",
         clock.millions()
     );
-    println!("|---|--:|--:|--:|--:|--:|");
+    println!("|---|--:|--:|--:|--:|--:|--:|");
     row(clock, &ordinary(clock));
     row(clock, &hostile(clock));
     println!();
@@ -74,13 +74,14 @@ fn row(clock: &Clock, viewed: &Viewed) {
         });
         cost
     });
-    let [listing, count, last, views] = costs[0].map(|cost| cost.median / *times as f64);
+    let [listing, count, last, views, places] = costs[0].map(|cost| cost.median / *times as f64);
     println!(
-        "| {name} | {entries} | {:.3} | {:.2} | {:.2} | {:.1} |",
+        "| {name} | {entries} | {:.3} | {:.2} | {:.2} | {:.1} | {:.2} |",
         listing / 1e6,
         count / listing,
         last / listing,
-        views / listing
+        views / listing,
+        places / listing
     );
 }
 
@@ -100,7 +101,8 @@ fn do_work(work: usize, file: &[u8], table: &mut [u32]) {
             let end = asked.entry.place + asked.entry.owned;
             assert_eq!((asked.found, end as usize), (1, file.len()));
         }
-        _ => one_by_one(file, entries),
+        3 => one_by_one(file, entries),
+        _ => at_places(file, table),
     }
 }
 
@@ -111,4 +113,21 @@ fn one_by_one(file: &[u8], room: usize) {
         let name = library::name(file, room, k);
         assert_eq!((facts.number, name.number), (0, 0));
     }
+}
+
+/// The same, by one listing and a look at the place of each layer in its table.
+fn at_places(file: &[u8], table: &mut [u32]) {
+    let listed = library::list(file, table);
+    assert_eq!(listed.number, 0);
+    let mut layers = 0;
+    for entry in table.chunks_exact(ENTRY_NUMBERS) {
+        if entry[..2] == [4, 0] {
+            let place = entry[3] as usize;
+            let facts = library::layer_at(file, place);
+            let name = library::name_at(file, place);
+            assert_eq!((facts.number, name.number), (0, 0));
+            layers += 1;
+        }
+    }
+    assert_eq!(layers, LAYERS);
 }
