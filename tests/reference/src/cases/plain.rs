@@ -11,8 +11,8 @@ use std::ops::Range;
 use super::sweeps::{self, is_free, with_totals_off};
 use super::{every_listing, fields, views_of};
 use crate::case::Case;
-use crate::psp::listing::list;
-use crate::write::{HeaderPlace, Tree, Written};
+use crate::psp::listing::{list, FIRST_UNKNOWN};
+use crate::write::{HeaderPlace, Node, Tree, Written};
 
 /// More entries than any of these files has.
 pub const ROOM: u32 = 64;
@@ -45,8 +45,10 @@ fn listing(input: Vec<u8>) -> Case {
 /// each with its facts and its name; and what stands where it may not.
 fn placed(give: Give) {
     for (_, picture) in files::bases() {
-        questions(&picture.bytes(), give);
-        strangers(&picture.tree(), give);
+        let tree = picture.tree();
+        questions(&tree.bytes(), give);
+        strangers(&tree, give);
+        known_in_runs(&tree, give);
     }
     for picture in files::layers() {
         let input = picture.bytes();
@@ -196,5 +198,25 @@ fn strangers(tree: &Tree, give: Give) {
             changed.inside(&parent).splice(0..0, block);
             give(listing(changed.bytes()));
         }
+    }
+}
+
+/// A block of every known id behind a skipped one, and every question: what it is
+/// there does not depend on what is asked.
+fn known_in_runs(tree: &Tree, give: Give) {
+    let headers = tree.written().headers;
+    let mut blocks = tree.paths().into_iter().zip(headers);
+    let skipped = blocks.find(|(_, header)| header.id >= FIRST_UNKNOWN);
+    let Some((mut behind, _)) = skipped else {
+        return;
+    };
+    let place = behind.pop().map_or(0, |place| place + 1);
+    for id in 0..FIRST_UNKNOWN {
+        let mut changed = tree.clone();
+        let block = Node::new(id, 0, Vec::new());
+        changed.inside(&behind).insert(place, block);
+        every_listing(ROOM, 0, &changed.bytes())
+            .into_iter()
+            .for_each(&mut *give);
     }
 }
