@@ -1,10 +1,13 @@
 // The answers of a listing by name, and what document 01 tells of each ("Answer numbers"). A refusal is a name from the rule that gives
 // it to the edge of the library: no rule, and no walk, knows a number.
+
+#![tactic(auto)]
+
 ghost use Rattle.std.specs.Prelude.{◌≡◌};
 ghost use Rattle.answer.specs.Answers.{refusal_number, answer_number, is_accepted, paper};
 
 // What a rule says of a place where it goes no further.
-#[derive(Drop)]
+#[derive(Clone, Copy)]
 pub enum Refusal {
     // 2
     EndsTooSoon,
@@ -25,7 +28,7 @@ pub enum Refusal {
 }
 
 // What a listing answers: the file header and the table's room have answers of their own.
-#[derive(Drop)]
+#[derive(Clone, Copy)]
 pub enum Answer {
     // 0
     Accepted,
@@ -41,7 +44,7 @@ pub enum Answer {
 }
 
 // An answer, its place, and how many entries are listed.
-#[derive(Drop)]
+#[derive(Clone, Copy)]
 pub struct Outcome {
     pub answer: Answer,
     pub place: usize,
@@ -50,7 +53,7 @@ pub struct Outcome {
 
 // The same on paper.
 #[repr(C)]
-#[derive(Drop)]
+#[derive(Clone, Copy)]
 pub struct Told {
     pub number: u32,
     pub place: usize,

@@ -8,7 +8,7 @@ use pencil::Reply;
 
 // Whether the entry was found, 1 or 0; the final answer where it was not; the entry where it was. The other of the two is zeros.
 #[repr(C)]
-#[derive(Drop)]
+#[derive(Clone, Copy)]
 pub struct Asked {
     pub found: u32,
     pub listed: Told,

@@ -8,7 +8,7 @@ use crate::resolution::Resolution;
 use limits::{LAYERS, SIDE};
 
 #[repr(C)]
-#[derive(Drop)]
+#[derive(Clone, Copy)]
 pub struct ImageChunk {
     pub width: i32,
     pub height: i32,
@@ -29,7 +29,7 @@ impl ImageChunk {
     pub const SIZE: usize = 38;
 
     pub fn decode(file: &[u8], at: usize) -> ImageChunk
-        requires* { do ⌜ at + (← ⟦ImageChunk::SIZE⟧) ≤ length file.now ⌝ }
+        requires { at + ImageChunk.SIZE ≤ length file.now }
         ensures { result ≡ image_at file.now at }
     {
         ImageChunk::of(&file[at..at + ImageChunk::SIZE])
@@ -37,7 +37,7 @@ impl ImageChunk {
 
     // The fields, at their offsets.
     fn of(chunk: &[u8]) -> ImageChunk
-        requires* { do ⌜ (← ⟦ImageChunk::SIZE⟧) ≤ length chunk.now ⌝ }
+        requires { ImageChunk.SIZE ≤ length chunk.now }
         ensures { result ≡ image_of chunk.now }
     {
         ImageChunk {

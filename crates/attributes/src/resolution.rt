@@ -5,14 +5,14 @@ ghost use Rattle.attributes.specs.Resolution.{resolution_at, is_usable, is_resol
 const CENTIMETRES_PER_INCH: f64 = 2.54;
 
 #[repr(C)]
-#[derive(Drop)]
+#[derive(Clone, Copy)]
 pub struct Resolution {
     pub value: f64,
     pub metric: u8,
 }
 
 // Dots per centimetre, where there are any.
-#[derive(Drop)]
+#[derive(Clone, Copy)]
 pub enum Density {
     Absent,
     Dots(f64),
@@ -20,7 +20,7 @@ pub enum Density {
 
 // The same for C: whether there are any (0 or 1), and how many.
 #[repr(C)]
-#[derive(Drop)]
+#[derive(Clone, Copy)]
 pub struct Dots {
     pub known: u32,
     pub value: f64,
@@ -30,7 +30,7 @@ impl Resolution {
     pub const SIZE: usize = 9;
 
     pub fn decode(file: &[u8], at: usize) -> Resolution
-        requires* { do ⌜ at + (← ⟦Resolution::SIZE⟧) ≤ length file.now ⌝ }
+        requires { at + Resolution.SIZE ≤ length file.now }
         ensures { result ≡ resolution_at file.now at }
     {
         Resolution {

@@ -13,7 +13,7 @@ use kinds::Step;
 use memory::{MAIN, Parent, State};
 
 // What is known of a place before a header is read: it is an end, and nothing is missing; it is refused; or a block stands there.
-#[derive(Drop)]
+#[derive(Clone, Copy)]
 pub enum Edge {
     End,
     Stop(Refusal),

@@ -1,5 +1,8 @@
 // Bytes copied many at once. A loop that copies byte by byte out of one lent slice into another has to look whether they overlap; here all
 // bytes are read into a local block before one is written, and of both loops the compiler makes one move, without the block.
+
+#![tactic(auto)]
+
 ghost use Rattle.std.specs.Prelude.{◌≡◌, ◌++◌, ◌+◌, ◌≤◌, length, drop};
 ghost use Rattle.laws.specs.Lists.{over, part};
 

@@ -8,7 +8,7 @@ mod rows;
 pub use placer::place;
 
 // What placing answers; `place_paper` gives each its number.
-#[derive(Drop)]
+#[derive(Clone, Copy)]
 pub enum PlaceAnswer {
     // 0: each pixel that canvas and rectangle share has its byte
     Placed,

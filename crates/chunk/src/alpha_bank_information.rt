@@ -2,7 +2,7 @@
 ghost use Rattle.std.specs.Prelude.{◌≡◌, ◌+◌, ◌≤◌, length};
 ghost use Rattle.chunk.specs.AlphaBankInformation.{alpha_bank_at};
 
-#[derive(Drop)]
+#[derive(Clone, Copy)]
 pub struct AlphaBankChunk {
     pub count: u16,
 }
@@ -11,7 +11,7 @@ impl AlphaBankChunk {
     pub const SIZE: usize = 2;
 
     pub fn decode(file: &[u8], at: usize) -> AlphaBankChunk
-        requires* { do ⌜ at + (← ⟦AlphaBankChunk::SIZE⟧) ≤ length file.now ⌝ }
+        requires { at + AlphaBankChunk.SIZE ≤ length file.now }
         ensures { result ≡ alpha_bank_at file.now at }
     {
         AlphaBankChunk {

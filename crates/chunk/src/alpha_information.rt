@@ -7,7 +7,7 @@ use crate::name::name_at;
 use attributes::fault::Fault;
 
 #[repr(C)]
-#[derive(Drop)]
+#[derive(Clone, Copy)]
 pub struct AlphaChunk {
     pub name: [u8; 256],
     pub mask: Mask,
@@ -17,7 +17,7 @@ impl AlphaChunk {
     pub const SIZE: usize = 256 + Mask::SIZE;
 
     pub fn decode(file: &[u8], at: usize) -> AlphaChunk
-        requires* { do ⌜ at + (← ⟦AlphaChunk::SIZE⟧) ≤ length file.now ⌝ }
+        requires { at + AlphaChunk.SIZE ≤ length file.now }
         ensures { result ≡ alpha_at file.now at }
     {
         AlphaChunk::of(&file[at..at + AlphaChunk::SIZE])
@@ -25,7 +25,7 @@ impl AlphaChunk {
 
     // The fields, at their offsets.
     fn of(chunk: &[u8]) -> AlphaChunk
-        requires* { do ⌜ (← ⟦AlphaChunk::SIZE⟧) ≤ length chunk.now ⌝ }
+        requires { AlphaChunk.SIZE ≤ length chunk.now }
         ensures { result ≡ alpha_of chunk.now }
     {
         AlphaChunk {

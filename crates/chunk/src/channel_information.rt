@@ -5,7 +5,7 @@ ghost use Rattle.chunk.specs.ChannelInformation.{channel_of, channel_at, codes_f
 use attributes::fault::Fault;
 use rect::Shape;
 
-#[derive(Drop)]
+#[derive(Clone, Copy)]
 pub struct ChannelChunk {
     // The lengths of the content as it is stored, and of the plane that it decodes to.
     pub stored: u32,
@@ -18,7 +18,7 @@ impl ChannelChunk {
     pub const SIZE: usize = 12;
 
     pub fn decode(file: &[u8], at: usize) -> ChannelChunk
-        requires* { do ⌜ at + (← ⟦ChannelChunk::SIZE⟧) ≤ length file.now ⌝ }
+        requires { at + ChannelChunk.SIZE ≤ length file.now }
         ensures { result ≡ channel_at file.now at }
     {
         ChannelChunk::of(&file[at..at + ChannelChunk::SIZE])
@@ -26,7 +26,7 @@ impl ChannelChunk {
 
     // The fields, at their offsets.
     fn of(chunk: &[u8]) -> ChannelChunk
-        requires* { do ⌜ (← ⟦ChannelChunk::SIZE⟧) ≤ length chunk.now ⌝ }
+        requires { ChannelChunk.SIZE ≤ length chunk.now }
         ensures { result ≡ channel_of chunk.now }
     {
         ChannelChunk {

@@ -5,7 +5,7 @@ ghost use Rattle.chunk.specs.ColorPalette.{palette_of, palette_at, palette_fault
 use attributes::depth;
 use attributes::fault::Fault;
 
-#[derive(Drop)]
+#[derive(Clone, Copy)]
 pub struct PaletteChunk {
     pub count: u32,
 }
@@ -14,7 +14,7 @@ impl PaletteChunk {
     pub const SIZE: usize = 4;
 
     pub fn decode(file: &[u8], at: usize) -> PaletteChunk
-        requires* { do ⌜ at + (← ⟦PaletteChunk::SIZE⟧) ≤ length file.now ⌝ }
+        requires { at + PaletteChunk.SIZE ≤ length file.now }
         ensures { result ≡ palette_at file.now at }
     {
         PaletteChunk::of(&file[at..at + PaletteChunk::SIZE])
@@ -22,7 +22,7 @@ impl PaletteChunk {
 
     // The fields, at their offsets.
     fn of(chunk: &[u8]) -> PaletteChunk
-        requires* { do ⌜ (← ⟦PaletteChunk::SIZE⟧) ≤ length chunk.now ⌝ }
+        requires { PaletteChunk.SIZE ≤ length chunk.now }
         ensures { result ≡ palette_of chunk.now }
     {
         PaletteChunk {

@@ -11,7 +11,7 @@ use attributes::fault::Fault;
 use headers::array;
 
 #[repr(C)]
-#[derive(Drop)]
+#[derive(Clone, Copy)]
 pub struct LayerChunk {
     pub name: [u8; 256],
     // The layer type.
@@ -38,7 +38,7 @@ impl LayerChunk {
     pub const SIZE: usize = 375;
 
     pub fn decode(file: &[u8], at: usize) -> LayerChunk
-        requires* { do ⌜ at + (← ⟦LayerChunk::SIZE⟧) ≤ length file.now ⌝ }
+        requires { at + LayerChunk.SIZE ≤ length file.now }
         ensures { result ≡ layer_at file.now at }
     {
         LayerChunk::of(&file[at..at + LayerChunk::SIZE])
@@ -46,7 +46,7 @@ impl LayerChunk {
 
     // The fields, at their offsets.
     fn of(chunk: &[u8]) -> LayerChunk
-        requires* { do ⌜ (← ⟦LayerChunk::SIZE⟧) ≤ length chunk.now ⌝ }
+        requires { LayerChunk.SIZE ≤ length chunk.now }
         ensures { result ≡ layer_of chunk.now }
     {
         LayerChunk {

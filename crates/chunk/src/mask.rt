@@ -7,7 +7,7 @@ use crate::area::Area;
 use attributes::fault::Fault;
 
 #[repr(C)]
-#[derive(Drop)]
+#[derive(Clone, Copy)]
 pub struct Mask {
     pub area: Area,
     pub bitmaps: u16,
@@ -18,7 +18,7 @@ impl Mask {
     pub const SIZE: usize = Area::SIZE + 4;
 
     pub fn decode(file: &[u8], at: usize) -> Mask
-        requires* { do ⌜ at + (← ⟦Mask::SIZE⟧) ≤ length file.now ⌝ }
+        requires { at + Mask.SIZE ≤ length file.now }
         ensures { result ≡ mask_at file.now at }
     {
         Mask {

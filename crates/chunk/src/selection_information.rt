@@ -6,7 +6,7 @@ use crate::mask::Mask;
 use attributes::fault::Fault;
 
 #[repr(C)]
-#[derive(Drop)]
+#[derive(Clone, Copy)]
 pub struct SelectionChunk {
     pub mask: Mask,
 }
@@ -15,7 +15,7 @@ impl SelectionChunk {
     pub const SIZE: usize = Mask::SIZE;
 
     pub fn decode(file: &[u8], at: usize) -> SelectionChunk
-        requires* { do ⌜ at + (← ⟦SelectionChunk::SIZE⟧) ≤ length file.now ⌝ }
+        requires { at + SelectionChunk.SIZE ≤ length file.now }
         ensures { result ≡ selection_at file.now at }
     {
         SelectionChunk {

@@ -1,5 +1,8 @@
 // Numbers at a place of a file (document 000, section 4.2, whose names stand above each reader). Every number of artwork is little-endian. A
 // reader's contract says value and range, so that its callers need no proof of their own that a cast or a sum fits.
+
+#![tactic(auto)]
+
 pub mod big;
 
 ghost use Rattle.std.specs.Prelude.{◌≡◌, ◌+◌, ◌≤◌, length};

@@ -7,7 +7,7 @@ use rect::Size;
 
 // The block itself: its id, whether it is skipped (0 or 1), its nesting level, its header's place and the bytes that it owns.
 #[repr(C)]
-#[derive(Drop)]
+#[derive(Clone, Copy)]
 pub struct Block {
     pub id: u32,
     pub skipped: u32,
@@ -18,7 +18,7 @@ pub struct Block {
 
 // The codes of a channel.
 #[repr(C)]
-#[derive(Drop)]
+#[derive(Clone, Copy)]
 pub struct Code {
     pub bitmap: u32,
     pub channel: u32,
@@ -26,7 +26,7 @@ pub struct Code {
 
 // Where a block's content starts in the file, and how many bytes are stored there.
 #[repr(C)]
-#[derive(Drop)]
+#[derive(Clone, Copy)]
 pub struct Content {
     pub start: u32,
     pub stored: u32,
@@ -34,7 +34,7 @@ pub struct Content {
 
 // A part without meaning for its kind of block is zeros.
 #[repr(C)]
-#[derive(Drop)]
+#[derive(Clone, Copy)]
 pub struct Entry {
     pub block: Block,
     pub layer: u32,

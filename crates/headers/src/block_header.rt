@@ -5,7 +5,7 @@ ghost use Rattle.headers.specs.BlockHeader.{block_header_of, block_header_at, is
 // 7E 42 4B 00, the least byte first.
 pub const MARK: u32 = 0x004B427E;
 
-#[derive(Drop)]
+#[derive(Clone, Copy)]
 pub struct BlockHeader {
     pub mark: u32,
     pub id: u16,
@@ -19,7 +19,7 @@ impl BlockHeader {
     pub const SIZE: usize = 14;
 
     pub fn decode(file: &[u8], at: usize) -> BlockHeader
-        requires* { do ⌜ at + (← ⟦BlockHeader::SIZE⟧) ≤ length file.now ⌝ }
+        requires { at + BlockHeader.SIZE ≤ length file.now }
         ensures { result ≡ block_header_at file.now at }
     {
         BlockHeader::of(&file[at..at + BlockHeader::SIZE])
@@ -27,7 +27,7 @@ impl BlockHeader {
 
     // The fields, at their offsets.
     fn of(header: &[u8]) -> BlockHeader
-        requires* { do ⌜ (← ⟦BlockHeader::SIZE⟧) ≤ length header.now ⌝ }
+        requires { BlockHeader.SIZE ≤ length header.now }
         ensures { result ≡ block_header_of header.now }
     {
         BlockHeader {

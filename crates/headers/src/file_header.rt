@@ -8,7 +8,7 @@ use crate::array;
 // "Paint Shop Pro Image File", 0A 1A and five zeros.
 pub const SIGNATURE: [u8; 32] = *b"Paint Shop Pro Image File\n\x1a\0\0\0\0\0";
 
-#[derive(Drop)]
+#[derive(Clone, Copy)]
 pub struct FileHeader {
     pub signature: [u8; 32],
     pub major: u16,
@@ -22,7 +22,7 @@ impl FileHeader {
     pub const VERSION: usize = 32;
 
     pub fn decode(file: &[u8], at: usize) -> FileHeader
-        requires* { do ⌜ at + (← ⟦FileHeader::SIZE⟧) ≤ length file.now ⌝ }
+        requires { at + FileHeader.SIZE ≤ length file.now }
         ensures { result ≡ file_header_at file.now at }
     {
         FileHeader::of(&file[at..at + FileHeader::SIZE])
@@ -30,7 +30,7 @@ impl FileHeader {
 
     // The fields, at their offsets.
     fn of(header: &[u8]) -> FileHeader
-        requires* { do ⌜ (← ⟦FileHeader::SIZE⟧) ≤ length header.now ⌝ }
+        requires { FileHeader.SIZE ≤ length header.now }
         ensures { result ≡ file_header_of header.now }
     {
         FileHeader {

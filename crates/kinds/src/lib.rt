@@ -17,7 +17,7 @@ pub use skip::skip_block;
 
 // What stands at a place: the parent's end; a refusal and its place; an entry, then the next place and state; an entry whose inside is
 // entered, then the place and the state inside, and where the inside ends.
-#[derive(Drop)]
+#[derive(Clone, Copy)]
 pub enum Step {
     End,
     Stop {

@@ -69,5 +69,5 @@ room_up_to most table = pick (ltb most (length table / size)) most (length table
 unfoldable pub lists_up_to : List ℕ → ℕ → List ℕ → Result Told
 lists_up_to s most table = record { told = told (listed s (room_up_to most table)); dest = tabled (listed s (room_up_to most table)) table }
 
-abbrev pub result : Outcome → List ℕ → Result Told
-result o table = record { told = paper o; dest = table }
+abbrev pub left_by : Outcome → List ℕ → Result Told
+left_by o table = record { told = paper o; dest = table }

@@ -2,7 +2,7 @@
 ghost use Rattle.std.specs.Prelude.{◌≡◌};
 ghost use Rattle.answer.specs.Answers.{paper};
 ghost use Rattle.listing.specs.Question.{found_in};
-ghost use Rattle.listing.specs.Listing.{listed, told, lists, lists_up_to, result};
+ghost use Rattle.listing.specs.Listing.{listed, told, lists, lists_up_to, left_by};
 ghost use Rattle.listing.specs.Walks.{Walks};
 
 use crate::head::judge;
@@ -18,7 +18,7 @@ pub const BEYOND: usize = 8589934592;
 
 // The one walk of an input, for every use: a room in entries, a table that keeps as many of them as it reaches, and a question.
 fn walk(input: &[u8], room: usize, table: &mut [u32], question: Question) -> Out
-    ensures* { λ r. ⌜ Walks input.now room table.old question r table.new ⌝ }
+    ensures { Walks input.now room table.old question result table.new }
 {
     let head = judge(input);
     let answer = head.answer;
@@ -46,7 +46,7 @@ fn walk(input: &[u8], room: usize, table: &mut [u32], question: Question) -> Out
 // Lists an input into a table of 32-bit numbers, fourteen an entry, its room rounded down. Count entries stand in front of the table,
 // whatever the answer; nothing behind them changes.
 pub fn list(input: &[u8], table: &mut [u32]) -> Outcome
-    ensures* { λ r. ⌜ result r table.new ≡ lists input.now table.old ⌝ }
+    ensures { left_by result table.new ≡ lists input.now table.old }
 {
     let room = table.len() / Entry::SIZE;
     let o = walk(input, room, table, Question::IDLE);
@@ -56,7 +56,7 @@ pub fn list(input: &[u8], table: &mut [u32]) -> Outcome
 
 // The same with a room for at most so many entries: the smaller of that and the table's own.
 pub fn list_up_to(input: &[u8], most: usize, table: &mut [u32]) -> Outcome
-    ensures* { λ r. ⌜ result r table.new ≡ lists_up_to input.now most table.old ⌝ }
+    ensures { left_by result table.new ≡ lists_up_to input.now most table.old }
 {
     let whole = table.len() / Entry::SIZE;
     let room = if most < whole { most } else { whole };
@@ -67,7 +67,7 @@ pub fn list_up_to(input: &[u8], most: usize, table: &mut [u32]) -> Outcome
 
 // The same listing with a room for so many entries and no table: the answer, and what was asked of the entries.
 pub fn seek(input: &[u8], room: usize, question: Question) -> Out
-    ensures* { λ r. ⌜ (paper r.outcome ≡ told (listed input.now room)) × (r.found ≡ found_in question (listed input.now room).entries) ⌝ }
+    ensures { (paper result.outcome ≡ told (listed input.now room)) × (result.found ≡ found_in question (listed input.now room).entries) }
 {
     let mut none = [0u32; 0];
     walk(input, room, &mut none, question)
@@ -75,7 +75,7 @@ pub fn seek(input: &[u8], room: usize, question: Question) -> Out
 
 // The answer alone.
 pub fn count(input: &[u8], room: usize) -> Outcome
-    ensures* { λ r. ⌜ paper r ≡ told (listed input.now room) ⌝ }
+    ensures { paper result ≡ told (listed input.now room) }
 {
     let o = seek(input, room, Question::IDLE);
     let outcome = o.outcome;

@@ -6,7 +6,7 @@ ghost use Rattle.listing.specs.Question.{is_asked, noted};
 use entry::Entry;
 
 // The entries of an id that are skipped (1) or not (0), and the index-th of them.
-#[derive(Drop)]
+#[derive(Clone, Copy)]
 pub struct Question {
     pub id: u32,
     pub skipped: u32,
@@ -14,7 +14,7 @@ pub struct Question {
 }
 
 // How many there were, and the one that was asked for: zeros where there are not so many.
-#[derive(Drop)]
+#[derive(Clone, Copy)]
 pub struct Found {
     pub count: usize,
     pub entry: Entry,

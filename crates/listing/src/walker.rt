@@ -14,7 +14,7 @@ use memory::State;
 use plain::{held, in_bank, layer_entry, skips};
 
 // What a walk leaves: its answer, the state that it ended in, and what was asked of the entries.
-#[derive(Drop)]
+#[derive(Clone, Copy)]
 pub struct Out {
     pub outcome: Outcome,
     pub state: State,

@@ -11,14 +11,14 @@ use chunk::selection_information::SelectionChunk;
 use view::{Sought, seek_chunk};
 
 #[repr(C)]
-#[derive(Drop)]
+#[derive(Clone, Copy)]
 pub struct SelectionFacts {
     pub number: u32,
     pub selection: SelectionChunk,
 }
 
 #[repr(C)]
-#[derive(Drop)]
+#[derive(Clone, Copy)]
 pub struct AlphaFacts {
     pub number: u32,
     pub alpha: AlphaChunk,

@@ -5,7 +5,7 @@ ghost use Rattle.memory.specs.Codes.{is_of_layer, is_expected, has_codes, with_c
 use crate::parent::Parent;
 
 // A layer's channel of each code has come: bitmap 0 with channels 0 to 3, bitmap 1, bitmap 2.
-#[derive(Drop)]
+#[derive(Clone, Copy)]
 pub struct Codes {
     pub composite: bool,
     pub red: bool,

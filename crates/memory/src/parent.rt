@@ -5,7 +5,7 @@ ghost use Rattle.memory.specs.Parent.{outer, inner, parent_at, column_of};
 // Levels left to enter: 2 at the main level, 1 in what a main block holds, 0 in what that holds.
 pub const MAIN: usize = 2;
 
-#[derive(Drop)]
+#[derive(Clone, Copy)]
 pub enum Parent {
     Main,
     Bank,
@@ -16,7 +16,7 @@ pub enum Parent {
 }
 
 // The main block whose inside is walked, by what it holds: layers, a mask's channel, alpha channels. At the main level it is the last one.
-#[derive(Drop)]
+#[derive(Clone, Copy)]
 pub enum Open {
     Layers,
     Mask,

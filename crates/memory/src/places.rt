@@ -7,7 +7,7 @@ use crate::parent::Parent;
 use crate::state::State;
 
 // What becomes of a block.
-#[derive(Drop)]
+#[derive(Clone, Copy)]
 pub enum Placing {
     Refuse,
     Enter,

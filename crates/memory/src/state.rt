@@ -16,7 +16,7 @@ use chunk::selection_information::SelectionChunk;
 use rect::{Shape, Sides};
 
 // What the image chunk announces: its depth, which is 0 until the chunk has come, whether it wants a palette, and its layer count.
-#[derive(Drop)]
+#[derive(Clone, Copy)]
 pub struct Announced {
     pub depth: u16,
     pub paletted: bool,
@@ -24,7 +24,7 @@ pub struct Announced {
 }
 
 // Which of the blocks that come once were met.
-#[derive(Drop)]
+#[derive(Clone, Copy)]
 pub struct Met {
     pub palette: bool,
     pub bank: bool,
@@ -33,7 +33,7 @@ pub struct Met {
 }
 
 // Of the bank that is open: how many layers or alpha channels it announces, and how many were found in it.
-#[derive(Drop)]
+#[derive(Clone, Copy)]
 pub struct Members {
     pub announced: u32,
     pub found: u32,
@@ -41,7 +41,7 @@ pub struct Members {
 
 // The layer, selection or alpha channel that the walk is in: its number, the channels that are still to come, the codes of those that have,
 // and the sides of its saved image and mask rectangles.
-#[derive(Drop)]
+#[derive(Clone, Copy)]
 pub struct Current {
     pub number: u32,
     pub left: u16,
@@ -50,7 +50,7 @@ pub struct Current {
     pub mask: Sides,
 }
 
-#[derive(Drop)]
+#[derive(Clone, Copy)]
 pub struct State {
     pub image: Announced,
     pub met: Met,

@@ -13,7 +13,7 @@ use Rattle.packet.specs.declared.Packet.TheVariants.{Literals, Run}
 use Rattle.laws.specs.Choice.{pick}
 use Rattle.laws.specs.Lists.{part, over}
 use Rattle.packet.specs.Stream.{size_of, count_of}
-use Rattle.packer.specs.Packing.{three, other_than, until, next_of, stored_as, packed_with, packed, result, packs}
+use Rattle.packer.specs.Packing.{three, other_than, until, next_of, stored_as, packed_with, packed, left_by, packs}
 use Rattle.limits.specs.Limits.{plane_limit}
 use Rattle.packer.specs.declared.PackAnswer.TheVariants.{Whole, NoRoom, OverLimit}
 use Rattle.laws.proofs.Choice.{pick_yes, pick_no, pick_ind}
@@ -255,21 +255,21 @@ storing_last p before at done dest s h =
 
 -- ---- the answers
 
-packed_is : (plane dest : List ℕ) → length plane ≤ plane_limit → packs plane dest ≡ pick (ltb (length dest) (length (packed plane))) (result NoRoom dest) (result (Whole (length (packed plane))) (packed plane ++ drop (length (packed plane)) dest))
+packed_is : (plane dest : List ℕ) → length plane ≤ plane_limit → packs plane dest ≡ pick (ltb (length dest) (length (packed plane))) (left_by NoRoom dest) (left_by (Whole (length (packed plane))) (packed plane ++ drop (length (packed plane)) dest))
 unfolding packs
 packed_is plane dest h = pick_no _ _ _ (le-ltb plane_limit (length plane) h)
 
-pub pack_over_limit : (plane dest : List ℕ) → plane_limit < length plane → packs plane dest ≡ result OverLimit dest
+pub pack_over_limit : (plane dest : List ℕ) → plane_limit < length plane → packs plane dest ≡ left_by OverLimit dest
 unfolding packs
 pack_over_limit plane dest h = pick_yes _ _ _ (lt-ltb plane_limit (length plane) h)
 
-pub pack_short : (plane dest : List ℕ) → length plane ≤ plane_limit → length dest < length (packed plane) → packs plane dest ≡ result NoRoom dest
+pub pack_short : (plane dest : List ℕ) → length plane ≤ plane_limit → length dest < length (packed plane) → packs plane dest ≡ left_by NoRoom dest
 pack_short plane dest h short = packed_is plane dest h ∙ pick_yes _ _ _ (lt-ltb (length dest) (length (packed plane)) short)
 
 pub pack_whole :
     (plane dest : List ℕ) (n : ℕ) (after : List ℕ) → length plane ≤ plane_limit → length (packed plane) ≤ length dest → n ≡ length (packed plane)
-    → after ≡ packed plane ++ drop (length (packed plane)) dest → result (Whole n) after ≡ packs plane dest
+    → after ≡ packed plane ++ drop (length (packed plane)) dest → left_by (Whole n) after ≡ packs plane dest
 pack_whole plane dest n after h room e f =
-    ◌∙◌ {b = result (Whole (length (packed plane))) (packed plane ++ drop (length (packed plane)) dest)}
-    (λ i. result (Whole (e i)) (f i))
+    ◌∙◌ {b = left_by (Whole (length (packed plane))) (packed plane ++ drop (length (packed plane)) dest)}
+    (λ i. left_by (Whole (e i)) (f i))
     (sym (packed_is plane dest h ∙ pick_no _ _ _ (le-ltb (length dest) (length (packed plane)) room)))

@@ -54,12 +54,12 @@ paper (Whole n) = record { number = 0; length = n }
 paper NoRoom = record { number = 30; length = 0 }
 paper OverLimit = record { number = 31; length = 0 }
 
-abbrev pub result : PackAnswer → List ℕ → Result Packed
-result answer dest = record { told = paper answer; dest = dest }
+abbrev pub left_by : PackAnswer → List ℕ → Result Packed
+left_by answer dest = record { told = paper answer; dest = dest }
 
 -- what `pack` leaves: the packed form in front, and the rest of the destination unchanged
 unfoldable pub packs : List ℕ → List ℕ → Result Packed
 packs plane dest =
-    pick (ltb plane_limit (length plane)) (result OverLimit dest)
-    (pick (ltb (length dest) (length (packed plane))) (result NoRoom dest)
-    (result (Whole (length (packed plane))) (packed plane ++ drop (length (packed plane)) dest)))
+    pick (ltb plane_limit (length plane)) (left_by OverLimit dest)
+    (pick (ltb (length dest) (length (packed plane))) (left_by NoRoom dest)
+    (left_by (Whole (length (packed plane))) (packed plane ++ drop (length (packed plane)) dest)))

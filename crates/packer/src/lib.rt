@@ -11,7 +11,7 @@ pub use form::pack;
 pub use told::Packed;
 
 // What packing answers; `paper` gives each its number and length.
-#[derive(Drop)]
+#[derive(Clone, Copy)]
 pub enum PackAnswer {
     // 0: the packed form is written
     Whole { length: usize },

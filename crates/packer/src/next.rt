@@ -9,14 +9,14 @@ use crate::three::three_start;
 use packet::Packet;
 
 // The next place where three equal bytes start, or the plane's end, and how many bytes are equal there.
-#[derive(Drop)]
+#[derive(Clone, Copy)]
 pub(crate) struct Ahead {
     pub from: usize,
     pub same: usize,
 }
 
 // A packet, and what is ahead behind it.
-#[derive(Drop)]
+#[derive(Clone, Copy)]
 pub(crate) struct Next {
     pub packet: Packet,
     pub ahead: Ahead,

@@ -6,7 +6,7 @@ use crate::PackAnswer;
 
 // The number, and the bytes of the packed form.
 #[repr(C)]
-#[derive(Drop)]
+#[derive(Clone, Copy)]
 pub struct Packed {
     pub number: u32,
     pub length: usize,

@@ -27,8 +27,8 @@ paper RawLength = refusal 25 0
 paper OverLimit = refusal 26 0
 paper Outside = refusal 27 0
 
-abbrev pub result : PlaneAnswer → List ℕ → Result Plane
-result answer dest = record { told = paper answer; dest = dest }
+abbrev pub left_by : PlaneAnswer → List ℕ → Result Plane
+left_by answer dest = record { told = paper answer; dest = dest }
 
 -- nothing is written
 abbrev pub untouched : ℕ → List ℕ → Result Plane

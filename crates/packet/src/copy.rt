@@ -13,5 +13,5 @@ pub fn copy_over(src: &[u8], from: usize, n: usize, dest: &mut [u8], at: usize)
     requires { (from + n ≤ length src.now) × (at + n ≤ length dest.old) }
     ensures { dest.new ≡ over dest.old at (part src.now from n) }
 {
-    bytes::copy(&src[from..from + n], &mut dest[at..at + n]);
+    dest[at..at + n].copy_from_slice(&src[from..from + n]);
 }

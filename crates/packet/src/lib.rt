@@ -1,5 +1,8 @@
 // Packets of run lengths (document 01, Packets): what they are made of and what reading them answers, and the leaves that the two passes of
 // reading (crates judging and laying), the readers (crate reading) and the packer (crate packer) share.
+
+#![tactic(auto)]
+
 mod copy;
 mod packets;
 mod stand;
@@ -10,7 +13,7 @@ pub use stand::{Stand, less};
 pub use told::Plane;
 
 // So many literal bytes, or a byte that is repeated so many times.
-#[derive(Drop)]
+#[derive(Clone, Copy)]
 pub enum Packet {
     Literals(u8),
     Run(u8, u8),
@@ -18,7 +21,7 @@ pub enum Packet {
 
 // What stands at a place of a stream: the end of a full plane, a packet, or a packet that is refused. The definitions say a stream's meaning
 // by it; the passes come to the same end by branches of their own.
-#[derive(Drop)]
+#[derive(Clone, Copy)]
 pub enum Look {
     End,
     Next(Packet),
@@ -28,7 +31,7 @@ pub enum Look {
 }
 
 // What reading answers; `paper` gives each its number, place and bytes.
-#[derive(Drop)]
+#[derive(Clone, Copy)]
 pub enum PlaneAnswer {
     // 0: the whole plane is written
     Whole { stored: usize, plane: usize },

@@ -6,7 +6,7 @@ use crate::PlaneAnswer;
 
 // The number, the place inside the stored channel, and the bytes written.
 #[repr(C)]
-#[derive(Drop)]
+#[derive(Clone, Copy)]
 pub struct Plane {
     pub number: u32,
     pub place: usize,

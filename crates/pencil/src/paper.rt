@@ -6,7 +6,7 @@ use memory::State;
 
 // The blocks that are open, by where they end, the inner one first: none at the main level, one inside a main block, two inside what it
 // holds.
-#[derive(Drop)]
+#[derive(Clone, Copy)]
 pub enum Inside {
     Nothing,
     One(usize),
@@ -14,7 +14,7 @@ pub enum Inside {
 }
 
 // The place, the open blocks, what the rules remember, and how many entries were passed.
-#[derive(Drop)]
+#[derive(Clone, Copy)]
 pub struct Paper {
     pub place: usize,
     pub inside: Inside,
@@ -33,13 +33,13 @@ impl Paper {
 }
 
 // The entry that was asked for; or, where there is none, the listing's final answer.
-#[derive(Drop)]
+#[derive(Clone, Copy)]
 pub enum Reply {
     Found(Entry),
     Final(Outcome),
 }
 
-#[derive(Drop)]
+#[derive(Clone, Copy)]
 pub enum Turn {
     Says(Reply),
     Goes(Paper),

@@ -11,7 +11,7 @@ use memory::{Codes, Parent, State};
 const HEAD: usize = BlockHeader::SIZE + ChannelChunk::SIZE;
 
 // Where they ended, how many entries were listed by then, how many channels are still to come, and the codes of those that have.
-#[derive(Drop)]
+#[derive(Clone, Copy)]
 pub struct Laid {
     pub at: usize,
     pub count: usize,

@@ -19,7 +19,7 @@ const HEAD: usize = BlockHeader::SIZE + LayerChunk::SIZE;
 
 // A layer and those of its channels that are plain, where it is plain itself: where it ends, where these channels end, how many entries were
 // listed by then, and the state there.
-#[derive(Drop)]
+#[derive(Clone, Copy)]
 pub struct Layered {
     pub plain: bool,
     pub after: usize,

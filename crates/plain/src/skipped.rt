@@ -8,7 +8,7 @@ use headers::block_header::BlockHeader;
 use memory::MAIN;
 
 // Where a run of blocks ended, and how many entries were listed by then.
-#[derive(Drop)]
+#[derive(Clone, Copy)]
 pub struct Passed {
     pub at: usize,
     pub count: usize,

@@ -4,7 +4,7 @@ use Rattle.laws.specs.Choice.{pick}
 use Rattle.laws.specs.Results.{Result}
 use Rattle.answer.specs.declared.Answer.TheVariants.{OverLimit}
 use Rattle.answer.specs.declared.Told.{Told}
-use Rattle.listing.specs.Listing.{head_answer, lists, result}
+use Rattle.listing.specs.Listing.{head_answer, lists, left_by}
 
 -- bytes of the program's input
 abbrev pub program_limit : ℕ
@@ -12,4 +12,4 @@ program_limit = 65536
 
 -- a longer input is refused with 1 at 0, and the table is as it was
 unfoldable pub program_lists : List ℕ → List ℕ → Result Told
-program_lists s table = pick (ltb program_limit (length s)) (result (head_answer OverLimit 0) table) (lists s table)
+program_lists s table = pick (ltb program_limit (length s)) (left_by (head_answer OverLimit 0) table) (lists s table)

@@ -1,7 +1,7 @@
 // What the program prints of an input: a line for the answer, and a line for each entry. Standard input is read elsewhere, so that this
 // works on a slice.
 ghost use Rattle.std.specs.Prelude.{◌≡◌};
-ghost use Rattle.listing.specs.Listing.{result};
+ghost use Rattle.listing.specs.Listing.{left_by};
 ghost use Rattle.psplist.specs.Program.{program_lists};
 
 use answer::{Answer, Outcome, Told};
@@ -16,7 +16,7 @@ const TABLE: usize = 512 * Entry::SIZE;
 
 // The listing, under the program's own limit.
 pub fn list(input: &[u8], table: &mut [u32]) -> Outcome
-    ensures* { λ r. ⌜ result r table.new ≡ program_lists input.now table.old ⌝ }
+    ensures { left_by result table.new ≡ program_lists input.now table.old }
 {
     if INPUT < input.len() {
         return Outcome {

@@ -9,7 +9,7 @@ use lib.Seq.{length-take-le}
 use Rattle.laws.specs.Choice.{pick}
 use Rattle.laws.specs.Outcomes.{OneOutcome}
 use Rattle.packet.specs.Stream.{Outcome, bytes, refused, meaning}
-use Rattle.packet.specs.Reading.{paper, result, verdict, laid, unpacked}
+use Rattle.packet.specs.Reading.{paper, left_by, verdict, laid, unpacked}
 use Rattle.packet.specs.declared.told.Plane.{Plane}
 use Rattle.packet.specs.declared.PlaneAnswer.{PlaneAnswer}
 use Rattle.packet.specs.declared.PlaneAnswer.TheVariants.{Whole, NoRoom, Count128, Missing, TooMuch, UnknownCode, RawLength, OverLimit, Outside}
@@ -66,7 +66,7 @@ laid_front stream plane dest ys h e = sym (ap (laid plane dest) (ap (meaning str
 pub unpacked_is :
     (stream : List ℕ) (plane : ℕ) (dest : List ℕ) (a : PlaneAnswer) (after : List ℕ) → plane ≤ length dest
     → paper a ≡ verdict (length stream) plane (meaning stream plane) → after ≡ laid plane dest (meaning stream plane)
-    → result a after ≡ unpacked stream plane dest
+    → left_by a after ≡ unpacked stream plane dest
 unfolding unpacked
 unpacked_is stream plane dest a after h e f =
     ◌∙◌ {b = record { told = verdict (length stream) plane (meaning stream plane); dest = laid plane dest (meaning stream plane) }}
@@ -74,6 +74,6 @@ unpacked_is stream plane dest a after h e f =
 
 pub unpacked_refused :
     (stream : List ℕ) (plane : ℕ) (dest : List ℕ) (a : PlaneAnswer) → plane ≤ length dest → ((paper a).number ≡ 0 → ⊥)
-    → paper a ≡ verdict (length stream) plane (meaning stream plane) → result a dest ≡ unpacked stream plane dest
+    → paper a ≡ verdict (length stream) plane (meaning stream plane) → left_by a dest ≡ unpacked stream plane dest
 unpacked_refused stream plane dest a h other e =
     unpacked_is stream plane dest a dest h e (left_alone a (length stream) plane dest (meaning stream plane) other e)

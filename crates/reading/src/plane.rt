@@ -1,6 +1,6 @@
 // The plane reader.
 ghost use Rattle.std.specs.Prelude.{◌≡◌};
-ghost use Rattle.packet.specs.Reading.{result, plane_read};
+ghost use Rattle.packet.specs.Reading.{left_by, plane_read};
 
 use crate::packets::unpack;
 use packet::PlaneAnswer;
@@ -16,7 +16,7 @@ pub fn read_plane(
     code: u32,
     dest: &mut [u8],
 ) -> PlaneAnswer
-    ensures* { λ r. ⌜ result r dest.new ≡ plane_read input.now start stored plane code dest.old ⌝ }
+    ensures { left_by result dest.new ≡ plane_read input.now start stored plane code dest.old }
 {
     if 1 < code {
         return PlaneAnswer::UnknownCode;

@@ -1,5 +1,8 @@
 // Rectangles of a file (document 01, "Units"): four signed corners. Their rules, their sides, the rows and planes that they size, and the
 // pixels that two of them share.
+
+#![tactic(auto)]
+
 mod intersection;
 mod planes;
 mod rules;
@@ -15,7 +18,7 @@ pub use sides::{height, side, width};
 
 // RECT of document 000, section 4.2.
 #[repr(C)]
-#[derive(Drop)]
+#[derive(Clone, Copy)]
 pub struct Rect {
     pub left: i32,
     pub top: i32,
@@ -27,7 +30,7 @@ impl Rect {
     pub const SIZE: usize = 16;
 
     pub fn decode(file: &[u8], at: usize) -> Rect
-        requires* { do ⌜ at + (← ⟦Rect::SIZE⟧) ≤ length file.now ⌝ }
+        requires { at + Rect.SIZE ≤ length file.now }
         ensures { result ≡ rect_at file.now at }
     {
         Rect {

@@ -23,14 +23,14 @@ pub fn is_form(w: u32, bits: u32, short: bool, row: u32) -> bool
 }
 
 // The sides of a saved rectangle. Sixteen bits hold every permitted side, so that a plane's size is computed without a test.
-#[derive(Drop)]
+#[derive(Clone, Copy)]
 pub struct Sides {
     pub width: u16,
     pub height: u16,
 }
 
 // What the planes of a bitmap look like: their sides, the bits of a pixel, and whether a row may go without padding.
-#[derive(Drop)]
+#[derive(Clone, Copy)]
 pub struct Shape {
     pub sides: Sides,
     pub bits: u32,
@@ -39,7 +39,7 @@ pub struct Shape {
 
 // The size of a plane: its sides, its bytes, and the bytes of a row.
 #[repr(C)]
-#[derive(Drop)]
+#[derive(Clone, Copy)]
 pub struct Size {
     pub width: u32,
     pub height: u32,

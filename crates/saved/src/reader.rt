@@ -8,7 +8,7 @@ use endian::big;
 use entry::Entry;
 
 // What reading answers; `read_paper` gives each its number and count.
-#[derive(Drop)]
+#[derive(Clone, Copy)]
 pub enum ReadAnswer {
     // 0: the entries are in the table
     Whole { count: usize },
@@ -26,7 +26,7 @@ pub enum ReadAnswer {
 
 // The number, and the entries that were read.
 #[repr(C)]
-#[derive(Drop)]
+#[derive(Clone, Copy)]
 pub struct Restored {
     pub number: u32,
     pub count: usize,

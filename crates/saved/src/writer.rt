@@ -11,7 +11,7 @@ use entry::Entry;
 const MOST: usize = 76695844;
 
 // What writing answers; `write_paper` gives each its number and length.
-#[derive(Drop)]
+#[derive(Clone, Copy)]
 pub enum WriteAnswer {
     // 0: the file is written
     Whole { length: usize },
@@ -23,7 +23,7 @@ pub enum WriteAnswer {
 
 // The number, and the bytes of the file.
 #[repr(C)]
-#[derive(Drop)]
+#[derive(Clone, Copy)]
 pub struct Saved {
     pub number: u32,
     pub length: usize,

@@ -15,14 +15,14 @@ use headers::file_header::FileHeader;
 pub const IMAGE: usize = FileHeader::SIZE + BlockHeader::SIZE;
 
 #[repr(C)]
-#[derive(Drop)]
+#[derive(Clone, Copy)]
 pub struct ImageFacts {
     pub number: u32,
     pub image: ImageChunk,
 }
 
 #[repr(C)]
-#[derive(Drop)]
+#[derive(Clone, Copy)]
 pub struct LayerFacts {
     pub number: u32,
     pub layer: LayerChunk,

@@ -6,7 +6,7 @@ ghost use Rattle.view.specs.Shown.{of_input, of_ramp, refusal};
 pub const RAMP: usize = 1024;
 
 #[repr(C)]
-#[derive(Drop)]
+#[derive(Clone, Copy)]
 pub struct Part {
     pub number: u32,
     // 0 the input, 1 the ramp.

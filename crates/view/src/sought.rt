@@ -6,7 +6,7 @@ use headers::block_header::BlockHeader;
 use listing::Question;
 
 // The number of a refusal, or where the chunk starts.
-#[derive(Drop)]
+#[derive(Clone, Copy)]
 pub enum Sought {
     Refused(u32),
     At(usize),
