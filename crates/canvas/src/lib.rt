@@ -1,5 +1,8 @@
 // Placing a plane on a lent canvas (document 01, Canvas and palette): each clipped row goes into the part of the canvas that it covers. The one
 // entry point, `place`, has no `requires`, and it tests all before it writes one byte.
+
+#![tactic(auto)]
+
 mod clip;
 mod numbers;
 mod placer;

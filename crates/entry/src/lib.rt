@@ -1,4 +1,7 @@
 // An entry of the table (document 01, "The table"): its fourteen numbers, by what they tell of a block, and how a table keeps them.
+
+#![tactic(auto)]
+
 ghost use Rattle.std.specs.Prelude.{◌≡◌, ◌+◌, ◌≤◌, length};
 ghost use Rattle.laws.specs.Lists.{over};
 ghost use Rattle.entry.specs.Entry.{size, numbers_of, entry_at, stored};

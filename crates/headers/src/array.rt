@@ -8,5 +8,5 @@ pub fn fill(array: &mut [u8], file: &[u8], at: usize)
     ensures { array.new ≡ part file.now at (length array.old) }
 {
     let end = at + array.len();
-    bytes::copy(&file[at..end], array);
+    array.copy_from_slice(&file[at..end]);
 }

@@ -1,5 +1,8 @@
 // The first pass over a stream of packets: what its packets come to, with nothing written. In front, where stream and plane have room for any
 // packet, most tests are passed over; behind that every test is made.
+
+#![tactic(auto)]
+
 mod front;
 mod rest;
 

@@ -1,5 +1,8 @@
 // The second pass over a stream of packets, which the first (crate judging) has accepted: its plane is written into a slice that is the plane
 // and nothing more. In front, where stream and plane have room behind a packet, by whole blocks; behind that byte for byte.
+
+#![tactic(auto)]
+
 mod blocks;
 mod front;
 mod repeat;

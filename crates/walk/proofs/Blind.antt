@@ -13,7 +13,7 @@ use Rattle.entry.specs.declared.Entry.{Entry}
 use Rattle.walk.specs.Walk.{Step, Look, run}
 use Rattle.walk.specs.Room.{cut}
 use Rattle.walk.specs.Owed.{Owns, Moves, MovesOn, Shares, Blind}
-use Rattle.walk.specs.Promised.{Tiles, next, Hides, here, there}
+use Rattle.walk.specs.Promised.{Tiles, none, next, Hides, here, there}
 use Rattle.walk.specs.Course as course
 use Rattle.walk.specs.Course.{Stand, stand, seen, Course, Answered}
 use Rattle.walk.proofs.Course.{owns_of, opens_of, Fits, fits, owed}
@@ -25,6 +25,7 @@ use Rattle.walk.proofs.Exact.{cut_exact, exact_only}
 module _ {hidden : Entry → ℕ → Type 0} {i : ℕ} where
   -- among those that entries side by side own
   pub hides_within : {a b : ℕ} {es : List Entry} → Tiles a es b → Hides hidden i es → (a ≤ i) × (i < b)
+  hides_within (none {a}) h = elim h [ ]
   hides_within (next k t) (here low high h) = (omega arith, omega (arith, tiles_total t))
   hides_within (next k t) (there h) = let w = hides_within t h in (omega (arith, w.0), w.1)
 
@@ -39,6 +40,7 @@ module _ {hidden : Entry → ℕ → Type 0} {i : ℕ} where
   -- in one before the last, or in that
   hides_last : (es : List Entry) (e : Entry) → Hides hidden i (es ++ e ∷ []) → Hides hidden i es ⊎ ((e.block.place ≤ i) × hidden e i)
   hides_last [] e (here low high h) = inr (low, h)
+  hides_last [] e (there h) = elim h [ ]
   hides_last (x ∷ es) e (here low high h) = inl (here low high h)
   hides_last (x ∷ es) e (there h) = ⊎_elim (λ z. inl (there z)) inr (hides_last es e h)
 

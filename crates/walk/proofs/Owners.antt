@@ -10,6 +10,7 @@ use Rattle.walk.specs.Promised.{Tiles, none, next, Owner, here, there, OneOwner}
 
 -- no entry from a on owns a byte before a
 owner_above : {a b k i : ℕ} {es : List Entry} → Tiles a es b → Owner k es i → a ≤ k
+owner_above (none {a}) o = elim o [ ]
 owner_above (next p t) (here low high) = omega arith
 owner_above (next {a} {e} p t) (there o) = omega (arith, owner_above t o)
 

@@ -35,12 +35,12 @@ tiles_more e (next k t) h is = next k (tiles_more e t h is)
 -- up to the header of any of them
 tiles_before : {a c : ℕ} (es : List Entry) (e : Entry) (more : List Entry) → Tiles a (es ++ e ∷ more) c → Tiles a es e.block.place
 tiles_before [] e more (next h t) = subst (λ (a : ℕ). Tiles a [] e.block.place) h none
-tiles_before (x ∷ es) e more (next h t) = next h (tiles_before es e more t)
+tiles_before {a} (x ∷ es) e more (next h t) = next h (tiles_before {a = a + x.block.owned} es e more t)
 
 pub tiles_drop : {a b : ℕ} {es : List Entry} → Tiles a es b → (n : ℕ) → (c : ℕ) × Tiles c (drop n es) b
 tiles_drop {a} t zero = (a, t)
 tiles_drop {a} none (suc n) = (a, none)
-tiles_drop (next h t) (suc n) = tiles_drop t n
+tiles_drop {a} (next {e} h t) (suc n) = tiles_drop {a = a + e.block.owned} t n
 
 -- none of them lies before their beginning
 pub tiles_above : {a b : ℕ} {es : List Entry} (m : ℕ) → m ≤ a → Tiles a es b → All (λ (e : Entry). m ≤ e.block.place) es

@@ -1,0 +1,14 @@
+-- `laying::front::write_front` meets its contract. The loop's invariant: what is written stands in front of what the rest of the stream
+-- means. The measure is the bytes of the stream that are left.
+use Prim.Native.Nat.{◌+◌, ◌-◌, ◌<◌, ◌≤◌}
+use native.Mathlib.Omega.{arith}
+use borrow.Author.Rules.{rules}
+use lib.ListN.{length}
+use Rattle.laying.proofs.Laying.{Laying, laying_first, literals_fit, laying_literals, run_fits, laying_run}
+use Rattle.laying.proofs.front.write_front.Given as goal
+
+abbrev pub invariant-loop-at : goal.invariant-loop-at
+invariant-loop-at l = Laying l.stream (length l.initial.dest) l.at l.done l.dest
+
+abbrev pub decreases-loop-at : goal.decreases-loop-at
+decreases-loop-at l = length l.stream - l.at
