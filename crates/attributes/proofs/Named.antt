@@ -57,6 +57,7 @@ in_order_rest x (y ∷ xs) h = (both (in_front x y) _ h).1
 same_first :
     {offset size : ℕ} {s t : List ℕ} {xs ys : List Field} → in_order xs ≡ true → take (offset + size) s ≡ take (offset + size) t → Alike s t xs ys
     → First offset size xs → First offset size ys
+same_first {offset = offset} {size = size} {s = s} {t = t} order same none x10 = elim x10 [ ]
 same_first {offset} {size} {s} {t} order same (next_field {o} {n} alike rest) (here at long e) =
     let ends : o + n ≡ offset + size = ap₂ (λ (a b : ℕ). a + b) at long in
     here at long (sym (alike (subst⁻¹ (λ (m : ℕ). take m s ≡ take m t) ends same)) ∙ e)
@@ -101,12 +102,14 @@ pub data MendsEach (rule : List ℕ → List Field) (chunk : List ℕ) : List Fi
 mends_first :
     {rule : List ℕ → List Field} {chunk : List ℕ} {offset size : ℕ} {xs : List Field} → MendsEach rule chunk xs → First offset size xs
     → Mends rule chunk offset size
+mends_first {rule = rule} {chunk = chunk} {offset = offset} {size = size} no_field x3 = elim x3 [ ]
 mends_first {rule} {chunk} (mend m rest) (here at long e) = subst₂ (Mends rule chunk) at long m
 mends_first (mend m rest) (behind e f) = mends_first (rest e) f
 
 passes :
     {offset size : ℕ} {s t : List ℕ} {xs ys : List Field} → in_order xs ≡ true → take offset s ≡ take offset t → Alike s t xs ys
     → test_at offset ys ≡ true → First offset size xs → Passed offset size ys
+passes {offset = offset} {size = size} {s = s} {t = t} order same none test x13 = elim x13 [ ]
 passes {offset} order same (next_field {o} {n} {q} {ys} alike rest) test (here at long e) =
     here at long (sym (ap (λ (b : Bool). cond b q (test_at offset ys)) (eq-eqb o offset at)) ∙ test)
 passes {offset} {s} {t} order same (next_field {o} {n} {p} {q} {xs} {ys} alike rest) test (behind e f) =
@@ -154,6 +157,7 @@ after place w (x ∷ xs) order h =
 
 reaches :
     {offset size : ℕ} (place : ℕ) (xs : List Field) → in_order xs ≡ true → starts place xs ≡ true → First offset size xs → place < offset + size → place ≤ offset
+reaches {offset = offset} {size = size} place [] order h x4 near = elim x4 [ ]
 reaches place (x ∷ xs) order h (here at long e) near =
     either (eqb x.offset place) (starts place xs) h (λ e. omega (arith, eqb-true x.offset place e)) (λ e. omega (arith, (after place x xs order e).ends))
 reaches place (x ∷ xs) order h (behind e f) near =

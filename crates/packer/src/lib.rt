@@ -1,5 +1,8 @@
 // The packer of run lengths (document 01, Packets): the packed form of a plane, which the packet reader reads back. The caller lends every
 // buffer, and the packer knows that its form has room before it writes one byte. `pack` has no `requires`.
+
+#![tactic(auto)]
+
 mod equal;
 mod form;
 mod least;

@@ -1,5 +1,8 @@
 // The saved form of a table (document 02, requests iv and ix), for a job that is opened without its artwork: a length, a version, a count, and
 // the numbers of each entry. The caller lends every buffer, and none is touched unless all is well. Neither function has a `requires`.
+
+#![tactic(auto)]
+
 pub mod reader;
 mod sides;
 pub mod writer;

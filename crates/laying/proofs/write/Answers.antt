@@ -17,7 +17,5 @@ Goes s at done xs plane =
 
 pub returns : goal.returns
 returns c =
-    let call = c.before.before in
-    let front = call.before.before.before.before in
-    ap (meaning front.args.stream.now) (sym front.write_front-from.ensures.2) ∙ call.write_rest.ensures
+    ap (meaning c.args.stream.now) (sym c.write_front-from.ensures.2) ∙ c.write_rest.ensures
 

@@ -39,17 +39,13 @@ run c high =
 pub loop-at-preserved-then-count-lt128 : goal.loop-at-preserved-then-count-lt128
 loop-at-preserved-then-count-lt128 c =
     let put = c.put_literals.ensures in
-    let read = c.before.before.before.before.before in
-    let l = read.before.before.before.before in
-    laying_literals l.loop-at.invariant l.requires (omega arith) read.wide-count.result read.wide-count.ensures.0 _ (omega arith) put.0 put.1
+    laying_literals c.loop-at.invariant c.requires (omega arith) c.wide-count.result c.wide-count.ensures.0 _ (omega arith) put.0 put.1
 
 
 pub loop-at-preserved : goal.loop-at-preserved
 loop-at-preserved c =
     let put = c.put_run.ensures in
-    let read = c.before.before.before.before.before.before in
-    let l = read.before.before.before.before in
-    laying_run l.loop-at.invariant l.requires (omega arith) read.wide-count.result read.wide-count.ensures.0 _ (omega arith) put.0 put.1
+    laying_run c.loop-at.invariant c.requires (omega arith) c.wide-count.result c.wide-count.ensures.0 _ (omega arith) put.0 put.1
 
 
 pub returns : goal.returns

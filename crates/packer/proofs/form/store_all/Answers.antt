@@ -1,0 +1,15 @@
+-- `packer::form::store_all` meets its contract. The loop's invariant: what is stored stands in front of the packed form of the rest; and
+-- what is ahead is known. The measure is the bytes of the plane that are left.
+use mathlib.Core.Path.{subst⁻¹}
+use Prim.Native.Nat.{ℕ, ◌+◌, ◌-◌}
+use native.Mathlib.Omega.{arith}
+use borrow.Author.Rules.{rules}
+use lib.ListN.{length}
+use Rattle.packer.proofs.Ahead.{Known}
+use Rattle.packer.proofs.Packing.{Onward, onward, Storing, storing_first, storing_room, storing_next, storing_last}
+use Rattle.packer.proofs.form.store_all.Goals as goal
+
+
+pub shape_of-dest : goal.shape_of-dest
+shape_of-dest c = c.loop-at.invariant.0.written.long
+

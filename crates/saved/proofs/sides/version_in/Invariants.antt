@@ -1,0 +1,15 @@
+-- `saved::sides::version_in` meets its contract. The loop's invariant: `large` tells of the first i entries.
+use mathlib.Core.Path.{◌≡◌, sym, ◌∙◌}
+use Prim.Native.Nat.{◌-◌, ◌≤◌}
+use native.Mathlib.Omega.{arith}
+use borrow.Author.Rules.{rules}
+use Rattle.saved.specs.Saved.{any_large, entries_of}
+use Rattle.saved.proofs.Form.{entries_count, number_of}
+use Rattle.saved.proofs.Versions.{any_none, any_next, any_all}
+use Rattle.saved.proofs.sides.version_in.Given as goal
+
+abbrev pub invariant-loop-i : goal.invariant-loop-i
+invariant-loop-i l = (l.i ≤ l.count) × (l.large ≡ any_large l.i (entries_of l.file l.count))
+
+abbrev pub decreases-loop-i : goal.decreases-loop-i
+decreases-loop-i l = l.count - l.i
