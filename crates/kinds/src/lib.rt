@@ -1,5 +1,8 @@
 // A judge for each kind of block that the main level holds, and for one that is skipped: what stands behind a header that has passed, in
 // document 01's order of tests. The kinds inside the bank are the crate `layers`; which kind may stand where, the crate `block` knows.
+
+#![tactic(auto)]
+
 mod answers;
 mod bank;
 mod image;

@@ -1,5 +1,8 @@
 // What the rules remember from block to block, and what they know of a place by it: what holds a block, which blocks may stand there,
 // what is still missing.
+
+#![tactic(auto)]
+
 mod codes;
 mod parent;
 mod places;

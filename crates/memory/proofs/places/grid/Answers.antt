@@ -16,8 +16,7 @@ use Rattle.memory.specs.declared.places.Placing.{Placing}
 use Rattle.memory.specs.declared.places.Placing.TheVariants.{Refuse, Enter, Skip}
 use Rattle.memory.specs.Parent.{column_of}
 use Rattle.memory.specs.Place.{grid_of}
-use Rattle.memory.proofs.places.grid.Statement.{statement}
-use Rattle.memory.proofs.places.grid.Tie as tie
+use Rattle.memory.proofs.places.grid.Goals as goal
 
 grid : List ℕ
 grid =
@@ -66,23 +65,16 @@ there id n p h e l =
     ∙ ap₂ (λ (a b : ℕ). saying (grid_of a (column b))) (omega arith) (omega arith)
     ∙ ap (λ (q : Parent). saying (grid_of id q)) (ap column e ∙ column_of_lem p)
 
--- the number that was read
-read : (c : tie.After-column) → let a = c.before.args in get_or grid (a.id * 6 + c.column.result) 0 ≡ saying (grid_of a.id a.parent)
-read c = there c.before.args.id c.column.result c.before.args.parent c.before.requires c.column.ensures.0 c.column.ensures.1
-
-returns : tie.Need-returns
+pub returns-in-0 : goal.returns-in-0
 unfolding grid
-returns c = sym ((said _ _ (read c.before)).0 c.match.keys1)
+returns-in-0 c = sym ((said _ _ ((there c.args.id c.column.result c.args.parent c.requires c.column.ensures.0 c.column.ensures.1))).0 c.in-0.is)
 
-returns_2 : tie.Need-returns-2
+pub returns-in-1 : goal.returns-in-1
 unfolding grid
-returns_2 c = sym ((said _ _ (read c.before)).1 c.match.keys2)
+returns-in-1 c = sym ((said _ _ ((there c.args.id c.column.result c.args.parent c.requires c.column.ensures.0 c.column.ensures.1))).1 c.in-1.is)
 
-returns_3 : tie.Need-returns-3
+pub returns-in_default : goal.returns-in_default
 unfolding grid
-returns_3 c = sym ((said _ _ (read c.before)).2 c.match.rest.0.1 c.match.rest.1)
-
-pub grid-spec : {M : Type 1} → statement M
-grid-spec =
-    tie.close
-    (tie.spec (λ c. search rules) (λ c κs. search rules) (λ c. search rules) (λ c. search rules) returns returns_2 returns_3)
+returns-in_default c =
+    let rest = c.in_default.in_default-own.rest in
+    sym ((said _ _ (there c.args.id c.column.result c.args.parent c.requires c.column.ensures.0 c.column.ensures.1)).2 rest.0.1 rest.1)

@@ -11,15 +11,14 @@ use Rattle.rect.specs.declared.planes.Sides.{Sides}
 use Rattle.rect.specs.Rows.{shape_of}
 use Rattle.memory.specs.declared.state.Current.{Current}
 use Rattle.memory.specs.State.{shape_for}
-use Rattle.memory.proofs.state.Current.shape_for.Statement.{statement}
-use Rattle.memory.proofs.state.Current.shape_for.Tie as tie
+use Rattle.memory.proofs.state.Current.shape_for.Goals as goal
 
-returns : tie.Need-returns
+pub returns-then-bitmap-eq0 : goal.returns-then-bitmap-eq0
 unfolding shape_for
-returns c =
-    let bits = c.before.bits.ensures in
-    let image = c.before.before.before.before.args.self.image in (
-      (λ i. shape_of image (bits.0 i) (c.short.ensures i)) ∙ sym (pick_yes _ _ _ (eq-eqb _ _ c.before.before.before.if1.true)),
+returns-then-bitmap-eq0 c =
+    let bits = c.bits.ensures in
+    let image = c.args.self.image in (
+      (λ i. shape_of image (bits.0 i) (c.short.ensures i)) ∙ sym (pick_yes _ _ _ (eq-eqb _ _ c.if-bitmap-eq0.true)),
       bits.1,
     )
 
@@ -30,11 +29,8 @@ mask_shape :
 unfolding shape_for
 mask_shape l depth bitmap mask chosen = ap (λ (s : Sides). shape_of s 8 true) (sym chosen) ∙ sym (pick_no _ _ _ mask)
 
-returns_2 : tie.Need-returns-2
-returns_2 c = (mask_shape _ _ _ (ne_eqb _ _ c.before.before.if1.false) (pick_yes _ _ _ (eq-eqb _ _ c.before.if2.true)), omega arith)
+pub returns-then-bitmap-eq2 : goal.returns-then-bitmap-eq2
+returns-then-bitmap-eq2 c = (mask_shape _ _ _ (ne_eqb _ _ c.if-bitmap-eq0.false) (pick_yes _ _ _ (eq-eqb _ _ c.if-bitmap-eq2.true)), omega arith)
 
-returns_3 : tie.Need-returns-3
-returns_3 c = (mask_shape _ _ _ (ne_eqb _ _ c.before.before.if1.false) (pick_no _ _ _ (ne_eqb _ _ c.before.if2.false)), omega arith)
-
-pub shape-for-spec : {M : Type 1} → statement M
-shape-for-spec = tie.close (tie.spec (λ c κs. search rules) (λ c κs. search rules) returns returns_2 returns_3)
+pub returns-else-bitmap-eq2 : goal.returns-else-bitmap-eq2
+returns-else-bitmap-eq2 c = (mask_shape _ _ _ (ne_eqb _ _ c.if-bitmap-eq0.false) (pick_no _ _ _ (ne_eqb _ _ c.if-bitmap-eq2.false)), omega arith)

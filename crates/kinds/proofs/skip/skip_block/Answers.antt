@@ -1,0 +1,13 @@
+use mathlib.Core.Path.{sym}
+use borrow.Author.Rules.{rules}
+use Rattle.walk.proofs.Unit.{unit_soon, unit_there}
+use Rattle.kinds.specs.Blocks.{skip_block}
+use Rattle.kinds.proofs.skip.skip_block.Goals as goal
+
+pub returns-then-s-next : goal.returns-then-s-next
+unfolding skip_block
+returns-then-s-next c = sym (unit_soon _ _ _ _ c.if-s-next.true)
+
+pub returns : goal.returns
+unfolding skip_block
+returns c = cc (unit_there _ _ _ _ c.if-s-next.false)

@@ -1,0 +1,8 @@
+use borrow.Author.Rules.{rules}
+use Rattle.memory.specs.Codes.{no_codes}
+use Rattle.memory.proofs.state.Current.by_mask.Goals as goal
+
+pub returns : goal.returns
+returns c =
+    let a = c.args in
+    λ i. record { number = a.number; left = a.c.channels; codes = no_codes; image = c.of-sides.ensures i; mask = c.of-sides.ensures i }
