@@ -1,5 +1,8 @@
 // A judge for a selection, for the alpha bank and for the alpha channels inside it (document 02, request vii). The channel that a selection and
 // an alpha channel hold is judged by crate `layers`, as a layer's is.
+
+#![tactic(auto)]
+
 mod alpha;
 mod alpha_bank;
 mod selection;
