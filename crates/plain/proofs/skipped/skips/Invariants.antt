@@ -1,0 +1,30 @@
+-- Skipped blocks that are plain are passed one by one, each by a step of the rule.
+use mathlib.Core.Path.{◌≡◌, refl, sym, ap, ◌∙◌}
+use mathlib.Core.List.{List, [], ◌∷◌, ◌++◌}
+use Prim.Native.Nat.{ℕ, ◌-◌, ◌≤◌}
+use native.Mathlib.Omega.{arith}
+use borrow.Author.Rules.{rules}
+use borrow.Author.Tests.{not-false}
+use lib.ListN.{length}
+use Rattle.laws.specs.All.{empty}
+use Rattle.laws.proofs.All.{all_more}
+use Rattle.entry.specs.declared.Entry.{Entry}
+use Rattle.walk.specs.Course.{start}
+use Rattle.walk.proofs.CourseTurn.{leaf_more}
+use Rattle.plain.specs.Skips.{is_passable, Skips}
+use Rattle.plain.proofs.SkipStep.{PlainSkip, skip_steps}
+use Rattle.plain.proofs.Stored.{none_stored, one_stored}
+use Rattle.plain.proofs.skipped.skips.Given as goal
+
+-- so far the contract holds of what was passed; `stop` stays where both input and parent go on
+pub record Going (s : List ℕ) (first end levels asked room : ℕ) (t₀ : List ℕ) (from stop : ℕ) (t : List ℕ) (at count : ℕ) : Type 0 where
+  pub here : stop ≤ length s
+  pub near : stop ≤ end
+  pub same : length t ≡ length t₀
+  pub passed : Skips s first end levels asked room from t₀ (record { at = at; count = count }) t
+
+abbrev pub invariant-loop-at : goal.invariant-loop-at
+invariant-loop-at l = Going l.s l.first l.end l.levels l.asked l.room l.initial.table l.from l.stop l.table l.at l.count
+
+abbrev pub decreases-loop-at : goal.decreases-loop-at
+decreases-loop-at l = l.end - l.at
