@@ -11,26 +11,26 @@ use Rattle.packet.proofs.PlaneTests.{unknown_code, over_limit, outside, no_room,
 use Rattle.reading.proofs.plane.read_plane.Goals as goal
 
 pub returns-then-code-gt1 : goal.returns-then-code-gt1
-returns-then-code-gt1 c = sym (unknown_code _ _ _ _ _ _ c.if-code-gt1.true)
+returns-then-code-gt1 c = sym (unknown_code _ _ _ _ _ _ (omega arith))
 
 pub returns-then-plane-gt-PLANE : goal.returns-then-plane-gt-PLANE
-returns-then-plane-gt-PLANE c = sym (over_limit _ _ _ _ _ _ c.if-code-gt1.false c.if-plane-gt-PLANE.true)
+returns-then-plane-gt-PLANE c = sym (over_limit _ _ _ _ _ _ (omega arith) c.if-plane-gt-PLANE.true)
 
 pub returns-then-input-start : goal.returns-then-input-start
-returns-then-input-start c = sym (outside _ _ _ _ _ _ c.if-code-gt1.false c.if-plane-gt-PLANE.false (omega arith))
+returns-then-input-start c = sym (outside _ _ _ _ _ _ (omega arith) c.if-plane-gt-PLANE.false (omega arith))
 
 pub returns-then-input-start-2 : goal.returns-then-input-start-2
-returns-then-input-start-2 c = sym (outside _ _ _ _ _ _ c.if-code-gt1.false c.if-plane-gt-PLANE.false (omega arith))
+returns-then-input-start-2 c = sym (outside _ _ _ _ _ _ (omega arith) c.if-plane-gt-PLANE.false (omega arith))
 
 pub returns-then-dest-plane : goal.returns-then-dest-plane
-returns-then-dest-plane c = sym (no_room _ _ _ _ _ _ c.if-code-gt1.false c.if-plane-gt-PLANE.false (omega arith) c.if-dest-plane.true)
+returns-then-dest-plane c = sym (no_room _ _ _ _ _ _ (omega arith) c.if-plane-gt-PLANE.false (omega arith) c.if-dest-plane.true)
 
 pub returns-then-code-eq1 : goal.returns-then-code-eq1
 returns-then-code-eq1 c =
     let a = c.args in
     c.unpack.ensures
     ∙ ap (λ (l : List ℕ). unpacked l a.plane a.dest.now) (lent a.input.now a.start a.stored)
-    ∙ sym (packets _ _ _ _ _ _ c.if-code-gt1.false c.if-plane-gt-PLANE.false (omega arith) c.if-dest-plane.false c.if-code-eq1.true)
+    ∙ sym (packets _ _ _ _ _ _ (omega arith) c.if-plane-gt-PLANE.false (omega arith) c.if-dest-plane.false c.if-code-eq1.true)
 
 pub slice_bounds-copy-end-then-stored-plane-2 : goal.slice_bounds-copy-end-then-stored-plane-2
 slice_bounds-copy-end-then-stored-plane-2 c = sym (length-take-le _ _ c.if-dest-plane.false)
@@ -46,8 +46,8 @@ returns-then-stored-plane c =
     let a = c.args in
     let there : a.start + a.stored ≤ length a.input.now = omega arith in
     (λ i. record { told = good a.stored a.plane; dest = copied_front a.input.now a.start a.stored a.plane a.dest.now _ there c.if-dest-plane.false same c.copy.ensures i })
-    ∙ sym (raw _ _ _ _ _ _ c.if-code-gt1.false c.if-plane-gt-PLANE.false there c.if-dest-plane.false c.if-code-eq1.false same)
+    ∙ sym (raw _ _ _ _ _ _ (omega arith) c.if-plane-gt-PLANE.false there c.if-dest-plane.false c.if-code-eq1.false same)
 
 pub returns : goal.returns
 returns c =
-    sym (raw_length _ _ _ _ _ _ c.if-code-gt1.false c.if-plane-gt-PLANE.false (omega arith) c.if-dest-plane.false c.if-code-eq1.false c.if-stored-plane.false)
+    sym (raw_length _ _ _ _ _ _ (omega arith) c.if-plane-gt-PLANE.false (omega arith) c.if-dest-plane.false c.if-code-eq1.false c.if-stored-plane.false)
