@@ -9,7 +9,7 @@ use lib.ListN.{length, drop, length-drop}
 use lib.Seq.{drop-drop}
 use Rattle.laws.proofs.Tests.{never, less_or_not}
 use Rattle.packer.specs.Packing.{until}
-use Rattle.packer.proofs.Until.{Count, count}
+use Rattle.packer.proofs.Until.{count}
 
 module _ (stop : List ℕ → Bool) (p : List ℕ) where
   -- the test holds at no place from `at` on and before `to`

@@ -1,6 +1,5 @@
 -- `laying::blocks::put_literals` meets its contract: each block is at least as long as what is laid.
 use native.Mathlib.Omega.{arith}
-use borrow.Author.Rules.{rules}
 use Rattle.laying.proofs.Laid.{literals_ahead}
 use Rattle.laying.proofs.blocks.put_literals.Goals as goal
 

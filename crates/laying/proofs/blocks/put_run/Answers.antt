@@ -1,6 +1,5 @@
 -- `laying::blocks::put_run` meets its contract: each block is at least as long as what is laid.
 use native.Mathlib.Omega.{arith}
-use borrow.Author.Rules.{rules}
 use Rattle.laying.proofs.Laid.{run_ahead}
 use Rattle.laying.proofs.blocks.put_run.Goals as goal
 

@@ -1,10 +1,8 @@
 -- `laying::front::write_front` meets its contract. The loop's invariant: what is written stands in front of what the rest of the stream
 -- means. The measure is the bytes of the stream that are left.
-use Prim.Native.Nat.{◌+◌, ◌-◌, ◌<◌, ◌≤◌}
-use native.Mathlib.Omega.{arith}
-use borrow.Author.Rules.{rules}
+use Prim.Native.Nat.{◌-◌}
 use lib.ListN.{length}
-use Rattle.laying.proofs.Laying.{Laying, laying_first, literals_fit, laying_literals, run_fits, laying_run}
+use Rattle.laying.proofs.Laying.{Laying}
 use Rattle.laying.proofs.front.write_front.Given as goal
 
 abbrev pub invariant-loop-at : goal.invariant-loop-at

@@ -1,9 +1,9 @@
--- `laying::repeat::repeat_over` meets its contract. The loop's invariant: the byte stands i times.
+-- `laying::repeat::repeat_over` meets its contract: the byte once more in each iteration.
 use mathlib.Core.Path.{◌≡◌, refl, sym, ap, ◌∙◌}
 use mathlib.Core.List.{List}
-use Prim.Native.Nat.{ℕ, ◌+◌, ◌-◌, ◌≤◌}
+use Prim.Native.Nat.{ℕ, ◌+◌}
 use native.Mathlib.Omega.{arith}
-use lib.ListN.{length, set, replicate, length-set}
+use lib.ListN.{set, replicate, length-set}
 use Rattle.laws.specs.Lists.{over}
 use Rattle.laws.proofs.Over.{over_none}
 use Rattle.laying.proofs.Laid.{over_repeat}

@@ -1,10 +1,5 @@
--- `packer::equal::all_equal` meets its contract. The loop's invariant: if `all` is true, no other byte has gone by.
-use mathlib.Core.Path.{◌≡◌}
-use mathlib.Core.Bool.{true}
-use Prim.Native.Nat.{◌+◌, ◌-◌, ◌≤◌}
+-- `packer::equal::all_equal` meets its contract: one byte more in each iteration.
 use native.Mathlib.Omega.{arith}
-use Rattle.packer.specs.Packing.{other_than}
-use Rattle.packer.proofs.Reach.{Clear}
 use Rattle.packer.proofs.Passing.{equal_more}
 use Rattle.packer.proofs.equal.all_equal.Goals as goal
 

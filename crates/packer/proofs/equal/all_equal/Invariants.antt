@@ -2,10 +2,8 @@
 use mathlib.Core.Path.{◌≡◌}
 use mathlib.Core.Bool.{true}
 use Prim.Native.Nat.{◌+◌, ◌-◌, ◌≤◌}
-use native.Mathlib.Omega.{arith}
 use Rattle.packer.specs.Packing.{other_than}
 use Rattle.packer.proofs.Reach.{Clear}
-use Rattle.packer.proofs.Passing.{equal_more}
 use Rattle.packer.proofs.equal.all_equal.Given as goal
 
 abbrev pub invariant-loop-i : goal.invariant-loop-i

@@ -1,6 +1,5 @@
 -- `packer::equal::equal_beyond` meets its contract: near, or far behind whole blocks.
 use native.Mathlib.Omega.{arith}
-use borrow.Author.Rules.{rules}
 use Rattle.packer.specs.Packing.{other_than}
 use Rattle.packer.proofs.Reach.{reached, whole_near, whole_far, whole_before, clear_near, clear_join}
 use Rattle.packer.proofs.equal.equal_beyond.Goals as goal

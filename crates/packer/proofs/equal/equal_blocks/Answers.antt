@@ -1,10 +1,7 @@
--- `packer::equal::equal_blocks` meets its contract. The loop's invariant: no other byte has gone by.
-use Prim.Native.Nat.{◌-◌}
+-- `packer::equal::equal_blocks` meets its contract: one block more in each iteration.
 use native.Mathlib.Omega.{arith}
-use borrow.Author.Tests.{not-false}
-use lib.ListN.{length}
 use Rattle.packer.specs.Packing.{other_than}
-use Rattle.packer.proofs.Reach.{Gone, gone_first, gone_block}
+use Rattle.packer.proofs.Reach.{gone_first, gone_block}
 use Rattle.packer.proofs.equal.equal_blocks.Goals as goal
 
 pub loop-to-init : goal.loop-to-init

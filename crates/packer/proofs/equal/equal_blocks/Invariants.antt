@@ -1,10 +1,8 @@
 -- `packer::equal::equal_blocks` meets its contract. The loop's invariant: no other byte has gone by.
 use Prim.Native.Nat.{◌-◌}
-use native.Mathlib.Omega.{arith}
-use borrow.Author.Tests.{not-false}
 use lib.ListN.{length}
 use Rattle.packer.specs.Packing.{other_than}
-use Rattle.packer.proofs.Reach.{Gone, gone_first, gone_block}
+use Rattle.packer.proofs.Reach.{Gone}
 use Rattle.packer.proofs.equal.equal_blocks.Given as goal
 
 abbrev pub invariant-loop-to : goal.invariant-loop-to

@@ -1,7 +1,6 @@
 -- `packer::equal::equal_end` meets its contract: at once, or beyond the first byte.
 use mathlib.Core.Logic.{inl, inr}
 use native.Mathlib.Omega.{arith}
-use borrow.Author.Rules.{rules}
 use Rattle.packer.specs.Packing.{other_than}
 use Rattle.packer.proofs.Places.{other_yes, other_no}
 use Rattle.packer.proofs.Reach.{reached_here, reached_beyond}

@@ -1,9 +1,8 @@
--- `packer::equal::other_byte` meets its contract. The loop's invariant: no other byte has gone by.
-use Prim.Native.Nat.{◌-◌}
+-- `packer::equal::other_byte` meets its contract: at the first other byte, or at the end.
 use native.Mathlib.Omega.{arith}
 use Rattle.packer.specs.Packing.{other_than}
 use Rattle.packer.proofs.Places.{other_yes, other_no}
-use Rattle.packer.proofs.Reach.{Gone, gone_first, gone_one, gone_stop, gone_end}
+use Rattle.packer.proofs.Reach.{gone_first, gone_one, gone_stop, gone_end}
 use Rattle.packer.proofs.equal.other_byte.Goals as goal
 
 pub loop-to-init : goal.loop-to-init

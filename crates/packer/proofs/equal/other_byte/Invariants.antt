@@ -1,9 +1,7 @@
 -- `packer::equal::other_byte` meets its contract. The loop's invariant: no other byte has gone by.
 use Prim.Native.Nat.{◌-◌}
-use native.Mathlib.Omega.{arith}
 use Rattle.packer.specs.Packing.{other_than}
-use Rattle.packer.proofs.Places.{other_yes, other_no}
-use Rattle.packer.proofs.Reach.{Gone, gone_first, gone_one, gone_stop, gone_end}
+use Rattle.packer.proofs.Reach.{Gone}
 use Rattle.packer.proofs.equal.other_byte.Given as goal
 
 abbrev pub invariant-loop-to : goal.invariant-loop-to

@@ -1,12 +1,9 @@
 -- `packer::form::store_all` meets its contract. The loop's invariant: what is stored stands in front of the packed form of the rest; and
 -- what is ahead is known. The measure is the bytes of the plane that are left.
-use mathlib.Core.Path.{subst⁻¹}
-use Prim.Native.Nat.{ℕ, ◌+◌, ◌-◌}
-use native.Mathlib.Omega.{arith}
-use borrow.Author.Rules.{rules}
+use Prim.Native.Nat.{◌-◌}
 use lib.ListN.{length}
 use Rattle.packer.proofs.Ahead.{Known}
-use Rattle.packer.proofs.Packing.{Onward, onward, Storing, storing_first, storing_room, storing_next, storing_last}
+use Rattle.packer.proofs.Packing.{Storing}
 use Rattle.packer.proofs.form.store_all.Given as goal
 
 abbrev pub invariant-loop-at : goal.invariant-loop-at

@@ -1,10 +1,5 @@
--- `packer::three::any_three` meets its contract. The loop's invariant: if `any` is false, three equal bytes started nowhere so far.
-use mathlib.Core.Path.{◌≡◌}
-use mathlib.Core.Bool.{false}
-use Prim.Native.Nat.{◌+◌, ◌-◌, ◌≤◌}
+-- `packer::three::any_three` meets its contract: one place more in each iteration.
 use native.Mathlib.Omega.{arith}
-use Rattle.packer.specs.Packing.{three}
-use Rattle.packer.proofs.Reach.{Clear}
 use Rattle.packer.proofs.Passing.{plain_more}
 use Rattle.packer.proofs.three.any_three.Goals as goal
 

@@ -2,10 +2,8 @@
 use mathlib.Core.Path.{◌≡◌}
 use mathlib.Core.Bool.{false}
 use Prim.Native.Nat.{◌+◌, ◌-◌, ◌≤◌}
-use native.Mathlib.Omega.{arith}
 use Rattle.packer.specs.Packing.{three}
 use Rattle.packer.proofs.Reach.{Clear}
-use Rattle.packer.proofs.Passing.{plain_more}
 use Rattle.packer.proofs.three.any_three.Given as goal
 
 abbrev pub invariant-loop-i : goal.invariant-loop-i

@@ -1,9 +1,7 @@
--- `packer::three::plain_blocks` meets its contract. The loop's invariant: three equal bytes started nowhere so far.
-use Prim.Native.Nat.{◌-◌}
+-- `packer::three::plain_blocks` meets its contract: one block more in each iteration.
 use native.Mathlib.Omega.{arith}
-use lib.ListN.{length}
 use Rattle.packer.specs.Packing.{three}
-use Rattle.packer.proofs.Reach.{Gone, gone_first, gone_block}
+use Rattle.packer.proofs.Reach.{gone_first, gone_block}
 use Rattle.packer.proofs.three.plain_blocks.Goals as goal
 
 pub loop-to-init : goal.loop-to-init

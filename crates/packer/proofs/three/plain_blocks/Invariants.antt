@@ -1,9 +1,8 @@
 -- `packer::three::plain_blocks` meets its contract. The loop's invariant: three equal bytes started nowhere so far.
 use Prim.Native.Nat.{◌-◌}
-use native.Mathlib.Omega.{arith}
 use lib.ListN.{length}
 use Rattle.packer.specs.Packing.{three}
-use Rattle.packer.proofs.Reach.{Gone, gone_first, gone_block}
+use Rattle.packer.proofs.Reach.{Gone}
 use Rattle.packer.proofs.three.plain_blocks.Given as goal
 
 abbrev pub invariant-loop-to : goal.invariant-loop-to

@@ -2,7 +2,6 @@
 use mathlib.Core.Path.{sym}
 use Prim.Native.Nat.{◌+◌}
 use native.Mathlib.Omega.{arith}
-use borrow.Author.Rules.{rules}
 use Rattle.packer.proofs.Places.{three_gap, three_second}
 use Rattle.packer.proofs.three.three_at.Goals as goal
 

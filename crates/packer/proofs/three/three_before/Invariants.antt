@@ -1,14 +1,7 @@
 -- `packer::three::three_before` meets its contract. The loop's invariant: one or two equal bytes have just gone by, and three equal ones
 -- start nowhere before them.
-use mathlib.Core.Path.{subst⁻¹}
-use mathlib.Core.Logic.{⊎_elim}
-use mathlib.Core.List.{List}
-use Prim.Native.Nat.{ℕ, ◌+◌, ◌-◌}
-use native.Mathlib.Omega.{arith}
-use borrow.Author.Tests.{eqb-true, eqb-false}
-use lib.ListN.{get_or}
-use Rattle.laws.proofs.Tests.{both, other_not}
-use Rattle.packer.proofs.Passing.{Passing, found_at_once, passing_first, passing_more, passing_other, passing_three, passing_end}
+use Prim.Native.Nat.{◌-◌}
+use Rattle.packer.proofs.Passing.{Passing}
 use Rattle.packer.proofs.three.three_before.Given as goal
 
 abbrev pub invariant-loop-to : goal.invariant-loop-to

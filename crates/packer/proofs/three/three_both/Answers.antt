@@ -1,5 +1,4 @@
 -- `packer::three::three_both` meets its contract: its two tests joined.
-use borrow.Author.Rules.{rules}
 use Rattle.packer.proofs.Places.{three_tested}
 use Rattle.packer.proofs.three.three_both.Goals as goal
 

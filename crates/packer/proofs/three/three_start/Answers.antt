@@ -2,7 +2,6 @@
 use mathlib.Core.Path.{sym, ◌∙◌}
 use mathlib.Core.Logic.{inr}
 use native.Mathlib.Omega.{arith}
-use borrow.Author.Rules.{rules}
 use Rattle.packer.specs.Packing.{three}
 use Rattle.packer.proofs.Reach.{reached, reached_here, reached_beyond}
 use Rattle.packer.proofs.Passing.{whole_few}
