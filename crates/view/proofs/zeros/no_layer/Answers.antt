@@ -2,22 +2,21 @@ use mathlib.Core.Bool.{false}
 use borrow.Author.Rules.{rules}
 use lib.ListN.{replicate}
 use Rattle.view.specs.Zeros.{no_layer}
-use Rattle.view.proofs.zeros.no_layer.Statement.{statement}
-use Rattle.view.proofs.zeros.no_layer.Tie as tie
+use Rattle.view.proofs.zeros.no_layer.Goals as goal
 
-returns : tie.Need-returns
+pub returns : goal.returns
 unfolding no_layer
 returns c =
     λ i. record {
       name = replicate 256 0;
       kind = 0;
-      image = c.before.no-area.ensures i;
+      image = c.no_area.ensures i;
       opacity = 0;
       blending = 0;
       visible = false;
       protected = false;
       group = 0;
-      mask = c.no-area2.ensures i;
+      mask = c.no_area-2.ensures i;
       linked = false;
       disabled = false;
       inverted = false;
@@ -26,6 +25,3 @@ returns c =
       bitmaps = 0;
       channels = 0;
     }
-
-pub no-layer-spec : {M : Type 1} → statement M
-no-layer-spec = tie.close (tie.spec (λ c κs. search rules) (λ c κs. search rules) returns)
