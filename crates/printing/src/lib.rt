@@ -1,37 +1,35 @@
-// What the programs print with, in one place: text, and each number and byte after a space, to standard output.
-use libc::STDOUT_FILENO;
+// What the programs read and print with, in one place: text, and each number and byte after a space, to any writer.
+#![tactic(auto)]
 
-pub fn text(s: &[u8]) {
-    io::write_all(STDOUT_FILENO, s);
+mod held;
+mod input;
+
+pub use held::Held;
+pub use input::read_full;
+use std::io;
+use std::io::Write;
+
+pub fn text(out: &mut impl Write, s: &[u8]) -> io::Result<()> {
+    out.write_all(s)
 }
 
-pub fn number(n: u64) {
-    text(b" ");
-    io::print_decimal(STDOUT_FILENO, n);
+pub fn number(out: &mut impl Write, n: u64) -> io::Result<()> {
+    write!(out, " {n}")
 }
 
-// A signed number. -1 - z is at least 0 where z is below, and has room for one more in 64 bits.
-pub fn signed(z: i32) {
-    if z < 0 {
-        let below = -1 - z;
-        let size = below as u64 + 1;
-        text(b" -");
-        io::print_decimal(STDOUT_FILENO, size);
-        return;
-    }
-    number(z as u64);
+// A signed number.
+pub fn signed(out: &mut impl Write, z: i32) -> io::Result<()> {
+    write!(out, " {z}")
 }
 
 // A byte in hexadecimal.
-pub fn byte(b: u8) {
-    text(b" ");
-    io::print_hex(STDOUT_FILENO, b as u64, 2);
+pub fn byte(out: &mut impl Write, b: u8) -> io::Result<()> {
+    write!(out, " {b:02x}")
 }
 
-pub fn bytes(s: &[u8]) {
-    let mut i = 0;
-    while i < s.len() {
-        byte(s[i]);
-        i += 1;
+pub fn bytes(out: &mut impl Write, s: &[u8]) -> io::Result<()> {
+    for b in s {
+        byte(out, *b)?;
     }
+    Ok(())
 }

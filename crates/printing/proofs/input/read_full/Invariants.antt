@@ -1,0 +1,9 @@
+-- The measure is the room that is left.
+use Rattle.std.proofs.Common.{◌-◌, ◌≤◌, length}
+use Rattle.printing.proofs.input.read_full.Given as goal
+
+abbrev pub invariant-loop-done : goal.invariant-loop-done
+invariant-loop-done g l = l.done ≤ length l.buffer
+
+abbrev pub decreases-loop-done : goal.decreases-loop-done
+decreases-loop-done g l = length l.initial.buffer - l.done
