@@ -1,5 +1,8 @@
 // The library as C sees it: each entry point as an exported function over numbers and lent slices (include/psp.h). None has a `requires`:
 // the function behind it tests its own arguments, and an answer comes in document 01's numbers.
+
+#![tactic(auto)]
+
 mod asked;
 mod at;
 mod filed;
