@@ -30,7 +30,7 @@ unfolding shape_for
 mask_shape l depth bitmap mask chosen = ap (λ (s : Sides). shape_of s 8 true) (sym chosen) ∙ sym (pick_no _ _ _ mask)
 
 pub returns-then-bitmap-eq2 : goal.returns-then-bitmap-eq2
-returns-then-bitmap-eq2 c = (mask_shape _ _ _ (ne_eqb _ _ c.if-bitmap-eq0.false) (pick_yes _ _ _ (eq-eqb _ _ c.if-bitmap-eq2.true)), omega arith)
+returns-then-bitmap-eq2 c = (mask_shape _ _ _ (ne_eqb _ _ (omega arith)) (pick_yes _ _ _ (eq-eqb _ _ c.if-bitmap-eq2.true)), omega arith)
 
 pub returns-else-bitmap-eq2 : goal.returns-else-bitmap-eq2
-returns-else-bitmap-eq2 c = (mask_shape _ _ _ (ne_eqb _ _ c.if-bitmap-eq0.false) (pick_no _ _ _ (ne_eqb _ _ c.if-bitmap-eq2.false)), omega arith)
+returns-else-bitmap-eq2 c = (mask_shape _ _ _ (ne_eqb _ _ (omega arith)) (pick_no _ _ _ (ne_eqb _ _ c.if-bitmap-eq2.false)), omega arith)
