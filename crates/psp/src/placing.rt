@@ -6,8 +6,7 @@ ghost use Rattle.rect.specs.Shared.{shared_of};
 use rect::Rect;
 
 // Places an 8-bit plane of rectangle r, whose rows are `row` bytes long. A refusal leaves the canvas untouched.
-#[unsafe(no_mangle)]
-pub extern "C" fn psp_place(
+pub fn psp_place(
     width: u32,
     height: u32,
     canvas: &mut [u8],
@@ -21,8 +20,7 @@ pub extern "C" fn psp_place(
     answer.number()
 }
 
-#[unsafe(no_mangle)]
-pub extern "C" fn psp_intersect(a: Rect, b: Rect) -> Rect
+pub fn psp_intersect(a: Rect, b: Rect) -> Rect
     ensures { result ≡ shared_of a b }
 {
     rect::intersect(a, b)
