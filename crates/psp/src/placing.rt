@@ -6,14 +6,7 @@ ghost use Rattle.rect.specs.Shared.{shared_of};
 use rect::Rect;
 
 // Places an 8-bit plane of rectangle r, whose rows are `row` bytes long. A refusal leaves the canvas untouched.
-pub fn psp_place(
-    width: u32,
-    height: u32,
-    canvas: &mut [u8],
-    r: Rect,
-    plane: &[u8],
-    row: u32,
-) -> u32
+pub fn psp_place(width: u32, height: u32, canvas: &mut [u8], r: Rect, plane: &[u8], row: u32) -> u32
     ensures { record { told = result; dest = canvas.new } ≡ placed width height canvas.old r plane.now row }
 {
     let answer = canvas::place(width, height, canvas, r, plane, row);
