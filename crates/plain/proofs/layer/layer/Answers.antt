@@ -5,7 +5,6 @@ use native.Mathlib.Omega.{arith}
 use borrow.Author.Rules.{rules}
 use borrow.Author.Tests.{not-false}
 use lib.Dec.{eqb}
-use Rattle.laws.proofs.Tests.{never}
 use Rattle.headers.specs.declared.block_header.BlockHeader.{BlockHeader}
 use Rattle.headers.specs.BlockHeader.{is_marked}
 use Rattle.chunk.specs.LayerInformation.{layer_size, layer_fault}
@@ -21,27 +20,6 @@ returns c said =
       more = c.if-members.false;
       initial = sym (ap (λ (h : BlockHeader). eqb h.initial layer_size || eqb h.initial 0) read) ∙ c.if-not-initial.false;
       total = omega (arith, c.if-total-lt-SIZE.false, ap (λ (h : BlockHeader). h.total) read);
-      whole = omega (arith, c.if-stop-at-2.false, ap (λ (h : BlockHeader). h.total) read);
+      whole = omega (arith, ap (λ (h : BlockHeader). h.total) read);
       good = sym (ap (layer_fault a.st.image.depth) c.decode-c.ensures) ∙ c.good.ensures said;
     }
-
-pub returns-then-stop-at : goal.returns-then-stop-at
-returns-then-stop-at c = never
-
-pub returns-then-not-marked : goal.returns-then-not-marked
-returns-then-not-marked c = never
-
-pub returns-then-h-ne4 : goal.returns-then-h-ne4
-returns-then-h-ne4 c = never
-
-pub returns-then-members : goal.returns-then-members
-returns-then-members c = never
-
-pub returns-then-not-initial : goal.returns-then-not-initial
-returns-then-not-initial c = never
-
-pub returns-then-total-lt-SIZE : goal.returns-then-total-lt-SIZE
-returns-then-total-lt-SIZE c = never
-
-pub returns-then-stop-at-2 : goal.returns-then-stop-at-2
-returns-then-stop-at-2 c = never
