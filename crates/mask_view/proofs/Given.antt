@@ -16,7 +16,7 @@ use Rattle.listing.proofs.RightEntries.{each_right, alphas_numbered}
 use Rattle.view.specs.declared.sought.Sought.TheVariants.{At}
 use Rattle.view.specs.Name.{name_at, name_of}
 use Rattle.view.proofs.Given.{entry_stands, entry_sought}
-use Rattle.mask_view.specs.Sought.{selection_sought, alpha_sought}
+use Rattle.mask_view.specs.Sought.{alpha_sought}
 use Rattle.mask_view.specs.Facts.{selection_facts, selection_facts_of, alpha_facts, alpha_facts_of}
 use Rattle.mask_view.specs.Name.{alpha_name_view}
 use Rattle.mask_view.specs.At.{selection_here, alpha_here, selection_facts_at, alpha_facts_at, alpha_name_view_at}

@@ -5,7 +5,7 @@ use mathlib.Core.List.{List, [], ◌∷◌}
 use Prim.Native.Nat.{ℕ, ◌+◌, ◌≤◌}
 use native.Mathlib.Omega.{arith}
 use borrow.Author.Tests.{eq-eqb, ne_eqb, le-leb, lt-leb}
-use lib.Dec.{eqb, leb}
+use lib.Dec.{eqb}
 use lib.ListN.{length}
 use Rattle.laws.specs.Choice.{pick}
 use Rattle.laws.proofs.Choice.{pick_yes, pick_no}
@@ -24,7 +24,7 @@ use Rattle.chunk.specs.Heads.{layer_head}
 use Rattle.chunk.specs.LayerInformation.{layer_size, layer_at, layer_fields, layer_fault}
 use Rattle.memory.specs.declared.parent.Open.{Open}
 use Rattle.memory.specs.declared.parent.Open.TheVariants.{Layers}
-use Rattle.memory.specs.declared.parent.Parent.TheVariants.{Bank, Layer}
+use Rattle.memory.specs.declared.parent.Parent.TheVariants.{Bank}
 use Rattle.memory.specs.declared.places.Placing.TheVariants.{Enter}
 use Rattle.memory.specs.declared.state.State.{State}
 use Rattle.memory.specs.Parent.{main, parent_at}

@@ -10,7 +10,6 @@ use lib.ListN.{length}
 use Rattle.laws.proofs.Choice.{pick_yes, pick_no, pick_ind}
 use Rattle.laws.proofs.Tests.{both}
 use Rattle.headers.specs.BlockHeader.{block_header_size, block_header_at}
-use Rattle.view.specs.declared.sought.Sought.{Sought}
 use Rattle.view.specs.declared.sought.Sought.TheVariants.{Refused, At}
 use Rattle.view.specs.Asked.{Inside}
 use Rattle.view.specs.At.{is_header_of, is_block_at, chunk_at}

@@ -1,5 +1,4 @@
 use mathlib.Core.Path.{sym, ap, ◌∙◌}
-use borrow.Author.Rules.{rules}
 use Rattle.answer.specs.declared.Told.{Told}
 use Rattle.entry.specs.Entry.{nowhere}
 use Rattle.asking.specs.Told.{told}

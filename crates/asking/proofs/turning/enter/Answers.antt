@@ -1,5 +1,4 @@
 use mathlib.Core.Path.{sym, ap}
-use borrow.Author.Rules.{rules}
 use Rattle.pencil.specs.Pencil.{entered}
 use Rattle.asking.proofs.turning.enter.Goals as goal
 

@@ -1,6 +1,5 @@
 use mathlib.Core.Path.{sym, ◌∙◌}
 use borrow.Author.Tests.{lt-ltb, le-ltb}
-use borrow.Author.Rules.{rules}
 use Rattle.laws.specs.Choice.{pick}
 use Rattle.listing.specs.Listing.{head_of}
 use Rattle.listing.proofs.head.judge.Goals as goal

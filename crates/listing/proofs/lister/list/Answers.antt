@@ -1,4 +1,3 @@
-use borrow.Author.Rules.{rules}
 use Rattle.listing.proofs.WalkOutcome.{list_leaves}
 use Rattle.listing.proofs.lister.list.Goals as goal
 

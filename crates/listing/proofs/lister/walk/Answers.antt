@@ -1,10 +1,7 @@
-use mathlib.Core.Path.{◌≡◌, sym, ap, ◌∙◌}
+use mathlib.Core.Path.{sym, ap, ◌∙◌}
 use native.Mathlib.Omega.{arith}
-use borrow.Author.Rules.{rules}
-use borrow.Author.Tests.{not-true, not-false}
 use Rattle.answer.specs.declared.Outcome.{Outcome}
 use Rattle.answer.specs.Answers.{is_accepted}
-use Rattle.listing.specs.Listing.{head_of}
 use Rattle.listing.proofs.Heads.{good_small}
 use Rattle.listing.proofs.WalkOutcome.{walked_leaves, refused_leaves}
 use Rattle.listing.proofs.lister.walk.Goals as goal

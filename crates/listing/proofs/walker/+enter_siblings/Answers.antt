@@ -1,22 +1,19 @@
-use mathlib.Core.Path.{◌≡◌, refl, sym, ap, ap₂, subst, subst⁻¹, ◌∙◌}
-use mathlib.Core.Logic.{⊎_elim}
+use mathlib.Core.Path.{◌≡◌, refl, sym, ap, ap₂, subst⁻¹, ◌∙◌}
 use mathlib.Core.List.{List}
-use Prim.Native.Nat.{ℕ, ◌+◌, ◌-◌, ◌*◌, ◌<◌, ◌≤◌}
+use Prim.Native.Nat.{ℕ, ◌+◌, ◌≤◌}
 use native.Mathlib.Omega.{arith}
-use borrow.Author.Tests.{eqb-true, eqb-false, ltb-true, not-true, not-false}
+use borrow.Author.Tests.{eqb-true, eqb-false, ltb-true, not-true}
 use lib.Dec.{eqb}
 use lib.ListN.{length}
 use Rattle.laws.proofs.Tests.{both}
 use Rattle.answer.proofs.Names.{accepted_is, not_accepted}
-use Rattle.walk.specs.Walk.{run}
-use Rattle.walk.proofs.LoopTurn.{Continues, OnLeaf, OnNest, Turn, turn}
+use Rattle.walk.proofs.LoopTurn.{OnLeaf, turn}
 use Rattle.entry.specs.declared.Entry.{Entry}
 use Rattle.memory.specs.declared.state.State.{State}
 use Rattle.memory.specs.Parent.{main}
 use Rattle.kinds.specs.Blocks.{told}
 use Rattle.block.specs.Step.{step_at}
 use Rattle.block.proofs.Owed.{moves}
-use Rattle.plain.specs.Layer.{Banked, layer_entry, HoldsPlain}
 use Rattle.plain.proofs.SkipStep.{behind_skip}
 use Rattle.listing.specs.declared.question.Question.{Question}
 use Rattle.listing.specs.declared.question.Found.{Found}

@@ -1,29 +1,16 @@
 -- The walk meets its contract: what is left to walk from a turn on is what is left from the start. Levels fall from call to call, and
 -- bytes left in the parent from turn to turn.
-use mathlib.Core.Path.{◌≡◌, refl, sym, ap, ap₂, subst, subst⁻¹, ◌∙◌}
-use mathlib.Core.Logic.{⊎_elim}
+use mathlib.Core.Path.{◌≡◌}
 use mathlib.Core.List.{List}
-use Prim.Native.Nat.{ℕ, ◌+◌, ◌-◌, ◌*◌, ◌<◌, ◌≤◌}
-use native.Mathlib.Omega.{arith}
-use borrow.Author.Tests.{eqb-true, eqb-false, ltb-true, not-true, not-false}
-use lib.Dec.{eqb}
+use Prim.Native.Nat.{ℕ, ◌+◌, ◌-◌, ◌*◌, ◌≤◌}
 use lib.ListN.{length}
-use Rattle.laws.proofs.Tests.{both}
-use Rattle.answer.proofs.Names.{accepted_is, not_accepted}
 use Rattle.walk.specs.Walk.{run}
-use Rattle.walk.proofs.LoopTurn.{Continues, OnLeaf, OnNest, Turn, turn}
+use Rattle.walk.proofs.LoopTurn.{Continues}
 use Rattle.memory.specs.declared.state.State.{State}
-use Rattle.memory.specs.Parent.{main}
-use Rattle.kinds.specs.Blocks.{told}
 use Rattle.block.specs.Step.{step_at}
-use Rattle.block.proofs.Owed.{moves}
-use Rattle.plain.specs.Layer.{Banked, layer_entry, HoldsPlain}
-use Rattle.plain.proofs.SkipStep.{behind_skip}
 use Rattle.listing.specs.declared.question.Question.{Question}
 use Rattle.listing.specs.declared.question.Found.{Found}
-use Rattle.listing.specs.Question.{noted, kept, put}
-use Rattle.listing.proofs.Noted.{one_few, walked_few}
-use Rattle.listing.proofs.PassedOn.{skips_on, layer_halts, layer_on, layer_ended, layer_few}
+use Rattle.listing.specs.Question.{kept, put}
 use Rattle.listing.proofs.walker.+enter_siblings.Given as goal
 
 abbrev pub decreases-enter : goal.decreases-enter

@@ -1,6 +1,5 @@
 use mathlib.Core.Path.{sym, ap, ◌∙◌}
 use native.Mathlib.Omega.{arith}
-use borrow.Author.Rules.{rules}
 use Rattle.view.specs.Name.{name_of}
 use Rattle.mask_view.specs.At.{alpha_name_view_at}
 use Rattle.view.proofs.Here.{here_inside}

@@ -1,5 +1,4 @@
 use mathlib.Core.Path.{sym, ap, ◌∙◌}
-use borrow.Author.Rules.{rules}
 use Rattle.mask_view.specs.Facts.{selection_facts_of}
 use Rattle.mask_view.specs.At.{selection_facts_at}
 use Rattle.view.proofs.Here.{here_inside}

@@ -1,5 +1,4 @@
 use mathlib.Core.Path.{sym, ap, ◌∙◌}
-use borrow.Author.Rules.{rules}
 use Rattle.mask_view.specs.Facts.{alpha_facts, alpha_facts_of}
 use Rattle.mask_view.proofs.Found.{alpha_inside}
 use Rattle.mask_view.proofs.facts.alpha_facts.Goals as goal

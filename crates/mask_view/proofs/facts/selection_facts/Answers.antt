@@ -1,5 +1,4 @@
 use mathlib.Core.Path.{sym, ap, ◌∙◌}
-use borrow.Author.Rules.{rules}
 use Rattle.mask_view.specs.Facts.{selection_facts, selection_facts_of}
 use Rattle.mask_view.proofs.Found.{selection_inside}
 use Rattle.mask_view.proofs.facts.selection_facts.Goals as goal

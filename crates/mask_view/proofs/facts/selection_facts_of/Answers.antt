@@ -1,4 +1,3 @@
-use borrow.Author.Rules.{rules}
 use Rattle.mask_view.proofs.facts.selection_facts_of.Goals as goal
 
 pub decode-requires : goal.decode-requires

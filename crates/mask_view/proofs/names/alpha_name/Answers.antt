@@ -1,6 +1,5 @@
 use mathlib.Core.Path.{refl}
 use native.Mathlib.Omega.{arith}
-use borrow.Author.Rules.{rules}
 use Rattle.view.proofs.Place.{part_of}
 use Rattle.view.proofs.Views.{shown_is}
 use Rattle.mask_view.proofs.Views.{alpha_name_inside}

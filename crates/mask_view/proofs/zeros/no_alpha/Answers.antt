@@ -1,4 +1,3 @@
-use borrow.Author.Rules.{rules}
 use lib.ListN.{replicate}
 use Rattle.mask_view.specs.Facts.{no_alpha}
 use Rattle.mask_view.proofs.zeros.no_alpha.Goals as goal

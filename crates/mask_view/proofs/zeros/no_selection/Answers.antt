@@ -1,4 +1,3 @@
-use borrow.Author.Rules.{rules}
 use Rattle.mask_view.proofs.zeros.no_selection.Goals as goal
 
 pub returns : goal.returns

@@ -1,24 +1,11 @@
 -- Channels that are plain are passed one by one, each by a step of the rule.
-use mathlib.Core.Path.{◌≡◌, refl, sym, ap, ◌∙◌}
-use mathlib.Core.List.{List, [], ◌∷◌, ◌++◌}
+use mathlib.Core.Path.{◌≡◌}
+use mathlib.Core.List.{List}
 use Prim.Native.Nat.{ℕ, ◌-◌, ◌≤◌}
-use native.Mathlib.Omega.{arith}
-use borrow.Author.Rules.{rules}
-use borrow.Author.Tests.{not-false}
 use lib.ListN.{length}
-use Rattle.laws.specs.All.{empty}
-use Rattle.laws.proofs.All.{all_more}
-use Rattle.rect.specs.declared.planes.Size.{Size}
-use Rattle.entry.specs.declared.Entry.{Entry}
-use Rattle.walk.specs.Course.{start}
-use Rattle.walk.proofs.CourseTurn.{leaf_more}
-use Rattle.chunk.specs.declared.channel_information.ChannelChunk.{ChannelChunk}
-use Rattle.layers.specs.Layers.{channel_entry}
 use Rattle.memory.specs.declared.codes.Codes.{Codes}
 use Rattle.memory.specs.declared.state.State.{State}
 use Rattle.plain.specs.Channels.{Channels}
-use Rattle.plain.proofs.ChannelStep.{next_channel}
-use Rattle.plain.proofs.Stored.{none_stored, one_stored}
 use Rattle.plain.proofs.channels.channels.Given as goal
 
 -- so far the contract holds of what was passed; `stop` stays where both input and layer go on

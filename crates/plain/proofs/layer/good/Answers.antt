@@ -1,9 +1,7 @@
 -- Where no test says no, every field is permitted.
-use mathlib.Core.Path.{◌≡◌, ap, ◌∙◌}
+use mathlib.Core.Path.{ap, ◌∙◌}
 use Prim.Native.Nat.{ℕ, ◌+◌}
 use native.Mathlib.Omega.{arith}
-use borrow.Author.Rules.{rules}
-use borrow.Author.Tests.{not-false}
 use Rattle.laws.proofs.Tests.{never}
 use Rattle.plain.proofs.LayerStep.{layer_good}
 use Rattle.plain.proofs.layer.good.Goals as goal

@@ -1,7 +1,5 @@
 -- Where no test says no, border and saved rectangle are good.
 use mathlib.Core.Path.{sym, ◌∙◌}
-use borrow.Author.Rules.{rules}
-use borrow.Author.Tests.{not-false}
 use Rattle.laws.proofs.Tests.{never}
 use Rattle.plain.proofs.layer.good_area.Goals as goal
 

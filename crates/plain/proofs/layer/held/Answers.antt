@@ -1,11 +1,9 @@
 -- A plain layer is stored, and its channels are passed from behind its chunk, in the state inside it.
 use mathlib.Core.Path.{◌≡◌, refl, sym, ap, ap₂, subst⁻¹, ◌∙◌}
 use mathlib.Core.Bool.{true}
-use mathlib.Core.List.{List, [], ◌∷◌}
+use mathlib.Core.List.{[], ◌∷◌}
 use Prim.Native.Nat.{ℕ, ◌+◌}
 use native.Mathlib.Omega.{arith}
-use borrow.Author.Rules.{rules}
-use borrow.Author.Tests.{not-false}
 use Rattle.laws.proofs.Tests.{never}
 use Rattle.entry.specs.Entry.{stored}
 use Rattle.walk.specs.Walk.{Nest}

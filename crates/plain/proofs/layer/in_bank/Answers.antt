@@ -1,5 +1,4 @@
 -- Only where the bank of layers is open, one level is left and the image has passed.
-use borrow.Author.Rules.{rules}
 use borrow.Author.Tests.{eqb-true, eqb-false, not-true}
 use lib.Dec.{eqb}
 use Rattle.laws.proofs.Tests.{never, both}

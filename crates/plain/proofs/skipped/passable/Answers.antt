@@ -1,6 +1,4 @@
 -- An id below 12 is passable by the second half of the definition, any other by the first.
-use mathlib.Core.Path.{◌≡◌, sym, ap}
-use mathlib.Core.Bool.{Bool, ◌||◌}
 use borrow.Author.Tests.{le-leb, lt-leb}
 use Rattle.plain.specs.Skips.{is_passable}
 use Rattle.plain.proofs.skipped.passable.Goals as goal

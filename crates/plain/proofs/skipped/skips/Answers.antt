@@ -1,21 +1,16 @@
 -- Skipped blocks that are plain are passed one by one, each by a step of the rule.
-use mathlib.Core.Path.{◌≡◌, refl, sym, ap, ◌∙◌}
-use mathlib.Core.List.{List, [], ◌∷◌, ◌++◌}
-use Prim.Native.Nat.{ℕ, ◌-◌, ◌≤◌}
+use mathlib.Core.Path.{refl, sym, ap, ◌∙◌}
+use mathlib.Core.List.{[], ◌∷◌, ◌++◌}
 use native.Mathlib.Omega.{arith}
-use borrow.Author.Rules.{rules}
-use borrow.Author.Tests.{not-false}
-use lib.ListN.{length}
 use Rattle.laws.specs.All.{empty}
 use Rattle.laws.proofs.All.{all_more}
 use Rattle.entry.specs.declared.Entry.{Entry}
 use Rattle.walk.specs.Course.{start}
 use Rattle.walk.proofs.CourseTurn.{leaf_more}
-use Rattle.plain.specs.Skips.{is_passable, Skips}
+use Rattle.plain.specs.Skips.{is_passable}
 use Rattle.plain.proofs.SkipStep.{PlainSkip, skip_steps}
 use Rattle.plain.proofs.Stored.{none_stored, one_stored}
 use Rattle.plain.proofs.skipped.skips.Goals as goal
-use Rattle.plain.proofs.skipped.skips.Invariants.{Going}
 
 pub loop-at-init : goal.loop-at-init
 loop-at-init c =

@@ -1,19 +1,9 @@
 -- Skipped blocks that are plain are passed one by one, each by a step of the rule.
-use mathlib.Core.Path.{◌≡◌, refl, sym, ap, ◌∙◌}
-use mathlib.Core.List.{List, [], ◌∷◌, ◌++◌}
+use mathlib.Core.Path.{◌≡◌}
+use mathlib.Core.List.{List}
 use Prim.Native.Nat.{ℕ, ◌-◌, ◌≤◌}
-use native.Mathlib.Omega.{arith}
-use borrow.Author.Rules.{rules}
-use borrow.Author.Tests.{not-false}
 use lib.ListN.{length}
-use Rattle.laws.specs.All.{empty}
-use Rattle.laws.proofs.All.{all_more}
-use Rattle.entry.specs.declared.Entry.{Entry}
-use Rattle.walk.specs.Course.{start}
-use Rattle.walk.proofs.CourseTurn.{leaf_more}
-use Rattle.plain.specs.Skips.{is_passable, Skips}
-use Rattle.plain.proofs.SkipStep.{PlainSkip, skip_steps}
-use Rattle.plain.proofs.Stored.{none_stored, one_stored}
+use Rattle.plain.specs.Skips.{Skips}
 use Rattle.plain.proofs.skipped.skips.Given as goal
 
 -- so far the contract holds of what was passed; `stop` stays where both input and parent go on

@@ -1,5 +1,4 @@
 use mathlib.Core.Path.{ap, ◌∙◌}
-use borrow.Author.Rules.{rules}
 use Rattle.asking.specs.Told.{told}
 use Rattle.pencil.proofs.Agree.{agrees}
 use Rattle.psp.proofs.asked.psp_entry_at.Goals as goal

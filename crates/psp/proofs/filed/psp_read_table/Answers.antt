@@ -1,4 +1,3 @@
-use borrow.Author.Rules.{rules}
 use Rattle.psp.proofs.Outcomes.{told_as}
 use Rattle.psp.proofs.filed.psp_read_table.Goals as goal
 

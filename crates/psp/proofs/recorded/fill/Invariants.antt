@@ -1,5 +1,5 @@
 -- The first i entries of the table are stored, and the rest of the records is as it was.
-use Rattle.std.proofs.Common.{◌≡◌, ◌-◌, ◌≤◌, length}
+use Rattle.std.proofs.Common.{◌≡◌, ◌-◌, ◌≤◌}
 use Rattle.psp.specs.Recorded.{records_of}
 use Rattle.psp.proofs.recorded.fill.Given as goal
 

@@ -1,4 +1,3 @@
-use borrow.Author.Rules.{rules}
 use Rattle.psp.proofs.Outcomes.{told_as}
 use Rattle.psp.proofs.recorded.list_up_to.Goals as goal
 

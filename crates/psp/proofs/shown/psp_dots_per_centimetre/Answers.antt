@@ -1,5 +1,4 @@
 use mathlib.Core.Path.{ap, ◌∙◌}
-use borrow.Author.Rules.{rules}
 use Rattle.attributes.specs.Resolution.{dots_of}
 use Rattle.psp.proofs.shown.psp_dots_per_centimetre.Goals as goal
 

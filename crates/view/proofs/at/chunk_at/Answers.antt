@@ -1,6 +1,5 @@
 use mathlib.Core.Path.{sym, ◌∙◌}
 use native.Mathlib.Omega.{arith}
-use borrow.Author.Rules.{rules}
 use Rattle.view.proofs.Here.{block_whole, stands, stands_not}
 use Rattle.view.proofs.at.chunk_at.Goals as goal
 

@@ -1,5 +1,4 @@
 use mathlib.Core.Path.{sym, ap, ◌∙◌}
-use borrow.Author.Rules.{rules}
 use Rattle.view.specs.Facts.{layer_facts_of}
 use Rattle.view.specs.At.{layer_facts_at}
 use Rattle.view.proofs.Here.{here_inside}

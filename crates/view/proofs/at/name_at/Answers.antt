@@ -1,6 +1,5 @@
 use mathlib.Core.Path.{sym, ap, ◌∙◌}
 use native.Mathlib.Omega.{arith}
-use borrow.Author.Rules.{rules}
 use Rattle.view.specs.Name.{name_of}
 use Rattle.view.specs.At.{name_view_at}
 use Rattle.view.proofs.Here.{here_inside}

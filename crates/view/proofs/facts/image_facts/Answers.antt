@@ -1,8 +1,5 @@
-use mathlib.Core.Path.{◌≡◌, sym, ap, ◌∙◌}
-use borrow.Author.Rules.{rules}
+use mathlib.Core.Path.{sym, ap, ◌∙◌}
 use Rattle.answer.specs.declared.Told.{Told}
-use Rattle.answer.specs.Answers.{is_accepted}
-use Rattle.listing.specs.Listing.{listed}
 use Rattle.view.specs.Facts.{no_image_facts, image_facts}
 use Rattle.view.proofs.Accepted.{accepted_has}
 use Rattle.view.proofs.Asked.{same_test, accepted_shown, accepted_refused}

@@ -1,5 +1,4 @@
 use mathlib.Core.Path.{sym, ap, ◌∙◌}
-use borrow.Author.Rules.{rules}
 use Rattle.view.specs.Facts.{layer_facts, layer_facts_of}
 use Rattle.view.proofs.Accepted.{layer_inside}
 use Rattle.view.proofs.facts.layer_facts.Goals as goal

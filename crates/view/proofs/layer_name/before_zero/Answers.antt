@@ -1,7 +1,5 @@
-use Prim.Native.Nat.{◌-◌}
 use native.Mathlib.Omega.{arith}
-use lib.ListN.{length}
-use Rattle.view.proofs.Zero.{Passed, passed_none, zero_here, passed_more, passed_all}
+use Rattle.view.proofs.Zero.{passed_none, zero_here, passed_more, passed_all}
 use Rattle.view.proofs.layer_name.before_zero.Goals as goal
 
 pub loop-n-init : goal.loop-n-init

@@ -1,7 +1,6 @@
 use Prim.Native.Nat.{◌-◌}
-use native.Mathlib.Omega.{arith}
 use lib.ListN.{length}
-use Rattle.view.proofs.Zero.{Passed, passed_none, zero_here, passed_more, passed_all}
+use Rattle.view.proofs.Zero.{Passed}
 use Rattle.view.proofs.layer_name.before_zero.Given as goal
 
 abbrev pub invariant-loop-n : goal.invariant-loop-n

@@ -1,4 +1,3 @@
-use borrow.Author.Rules.{rules}
 use Rattle.view.proofs.layer_name.name_of.Goals as goal
 
 pub named-requires : goal.named-requires

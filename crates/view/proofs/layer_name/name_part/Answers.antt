@@ -1,6 +1,5 @@
 use mathlib.Core.Path.{sym, ap, ◌∙◌}
 use native.Mathlib.Omega.{arith}
-use borrow.Author.Rules.{rules}
 use Rattle.view.specs.Name.{name_of, name_view}
 use Rattle.view.proofs.Accepted.{layer_inside}
 use Rattle.view.proofs.layer_name.name_part.Goals as goal

@@ -1,6 +1,5 @@
 use mathlib.Core.Path.{ap, ◌∙◌}
 use Prim.Native.Nat.{ℕ}
-use borrow.Author.Rules.{rules}
 use Rattle.view.specs.Name.{name_at}
 use Rattle.view.specs.Shown.{of_input}
 use Rattle.view.proofs.Zero.{name_length}

@@ -1,4 +1,3 @@
-use borrow.Author.Rules.{rules}
 use Rattle.view.proofs.Views.{same_ramp}
 use Rattle.view.proofs.palette_view.palette.Goals as goal
 

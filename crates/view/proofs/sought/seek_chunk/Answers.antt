@@ -1,13 +1,8 @@
-use mathlib.Core.Path.{◌≡◌, sym, ap, ◌∙◌}
-use mathlib.Core.Bool.{true}
+use mathlib.Core.Path.{sym, ap, ◌∙◌}
 use Prim.Native.Nat.{◌+◌}
-use borrow.Author.Rules.{rules}
-use borrow.Author.Tests.{not-true, not-false}
 use Rattle.answer.specs.declared.Told.{Told}
-use Rattle.answer.specs.Answers.{is_accepted}
 use Rattle.headers.specs.BlockHeader.{block_header_size}
 use Rattle.listing.specs.declared.question.Found.{Found}
-use Rattle.listing.specs.Listing.{listed}
 use Rattle.listing.specs.Question.{question}
 use Rattle.view.specs.declared.sought.Sought.TheVariants.{Refused, At}
 use Rattle.view.proofs.Asked.{same_test, is_there_lem, not_there, sought_there, sought_missing, sought_refused}

@@ -1,5 +1,4 @@
 use mathlib.Core.Bool.{false}
-use borrow.Author.Rules.{rules}
 use lib.ListN.{replicate}
 use Rattle.view.specs.Zeros.{no_layer}
 use Rattle.view.proofs.zeros.no_layer.Goals as goal

@@ -1,7 +1,6 @@
 -- Both tests, as the definition has them.
 use mathlib.Core.Path.{ap}
 use mathlib.Core.Bool.{Bool, ◌&&◌}
-use borrow.Author.Rules.{rules}
 use lib.Dec.{eqb}
 use Rattle.plain.proofs.layer.Layered.complete.Goals as goal
 
