@@ -1,4 +1,7 @@
 // Asking for one entry (document 02, request x): the turns of crate `pencil`, made one after another. Nothing is kept but one paper.
+
+#![tactic(auto)]
+
 mod numbers;
 mod turning;
 

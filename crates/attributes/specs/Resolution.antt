@@ -6,7 +6,7 @@ use Rattle.laws.specs.Choice.{pick}
 use Rattle.endian.specs.Number.{number_at, double_at}
 use Rattle.attributes.specs.declared.resolution.Resolution.{Resolution}
 use Rattle.attributes.specs.declared.resolution.Density.{Density}
-use Rattle.attributes.specs.declared.resolution.Density.TheVariants.{Absent, Dots as Some}
+use Rattle.attributes.specs.declared.resolution.Density.TheVariants.{Absent, Dots as Known}
 use Rattle.attributes.specs.declared.resolution.Dots.{Dots}
 
 unfoldable pub resolution_at : List ℕ → ℕ → Resolution
@@ -28,11 +28,11 @@ centimetres_per_inch = round binary64 false 254 100
 unfoldable pub density_of : Resolution → Density
 density_of r =
     pick (is_usable r.value)
-    (pick (eqb r.metric 2) (Some r.value)
-    (pick (eqb r.metric 1) (Some (div binary64 r.value centimetres_per_inch)) Absent))
+    (pick (eqb r.metric 2) (Known r.value)
+    (pick (eqb r.metric 1) (Known (div binary64 r.value centimetres_per_inch)) Absent))
     Absent
 
 -- in numbers: 0 where there are none
 abbrev pub dots_of : Density → Dots
 dots_of Absent = record { known = 0; value = fin false 0 (pos 0) }
-dots_of (Some x) = record { known = 1; value = x }
+dots_of (Known x) = record { known = 1; value = x }

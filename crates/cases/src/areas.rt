@@ -6,22 +6,23 @@ use crate::views::{numbered, placed, shown};
 use crate::{facts, hash};
 use chunk::alpha_information::AlphaChunk;
 use printing::text;
+use std::io;
+use std::io::Write;
 
-fn selection_fields(payload: &[u8])
+fn selection_fields(out: &mut impl Write, payload: &[u8]) -> io::Result<()>
     requires { 8 ≤ length payload.now }
 {
     let f = mask_view::selection_facts(&payload[8..], endian::u32_at(payload, 0) as usize);
-    numbered(b"S", f.number);
-    facts::mask(f.selection.mask);
-    text(b"\n");
+    numbered(out, b"S", f.number)?;
+    facts::mask(out, f.selection.mask)?;
+    text(out, b"\n")
 }
 
-pub fn selection_facts(payload: &[u8]) {
+pub fn selection_facts(out: &mut impl Write, payload: &[u8]) -> io::Result<()> {
     if payload.len() >= 8 && ends(payload, 4) {
-        selection_fields(payload);
-        return;
+        return selection_fields(out, payload);
     }
-    refuse(b"S");
+    refuse(out, b"S")
 }
 
 fn name_hash(c: AlphaChunk) -> u32 {
@@ -29,12 +30,12 @@ fn name_hash(c: AlphaChunk) -> u32 {
     hash::of_bytes(&name)
 }
 
-pub fn alpha(c: AlphaChunk) {
-    facts::mask(c.mask);
-    printing::number(name_hash(c) as u64);
+pub fn alpha(out: &mut impl Write, c: AlphaChunk) -> io::Result<()> {
+    facts::mask(out, c.mask)?;
+    printing::number(out, name_hash(c) as u64)
 }
 
-fn alpha_fields(payload: &[u8])
+fn alpha_fields(out: &mut impl Write, payload: &[u8]) -> io::Result<()>
     requires { 12 ≤ length payload.now }
 {
     let f = mask_view::alpha_facts(
@@ -42,46 +43,45 @@ fn alpha_fields(payload: &[u8])
         endian::u32_at(payload, 0) as usize,
         endian::u32_at(payload, 4),
     );
-    numbered(b"A", f.number);
-    alpha(f.alpha);
-    text(b"\n");
+    numbered(out, b"A", f.number)?;
+    alpha(out, f.alpha)?;
+    text(out, b"\n")
 }
 
-pub fn alpha_facts(payload: &[u8]) {
+pub fn alpha_facts(out: &mut impl Write, payload: &[u8]) -> io::Result<()> {
     if payload.len() >= 12 && ends(payload, 8) {
-        alpha_fields(payload);
-        return;
+        return alpha_fields(out, payload);
     }
-    refuse(b"A");
+    refuse(out, b"A")
 }
 
-fn name_shown(input: &[u8], room: usize, k: u32) {
+fn name_shown(out: &mut impl Write, input: &[u8], room: usize, k: u32) -> io::Result<()> {
     let mut number = 99;
     let part = mask_view::alpha_name(input, room, k, &mut number);
-    shown(number, part);
+    shown(out, number, part)
 }
 
-fn name_of(input: &[u8], room: usize, k: u32) {
+fn name_of(out: &mut impl Write, input: &[u8], room: usize, k: u32) -> io::Result<()> {
     let p = mask_view::alpha_name_part(input, room, k);
-    numbered(b"M", p.number);
-    placed(p);
-    name_shown(input, room, k);
+    numbered(out, b"M", p.number)?;
+    placed(out, p)?;
+    name_shown(out, input, room, k)
 }
 
-fn name_fields(payload: &[u8])
+fn name_fields(out: &mut impl Write, payload: &[u8]) -> io::Result<()>
     requires { 12 ≤ length payload.now }
 {
     name_of(
+        out,
         &payload[12..],
         endian::u32_at(payload, 0) as usize,
         endian::u32_at(payload, 4),
-    );
+    )
 }
 
-pub fn alpha_name(payload: &[u8]) {
+pub fn alpha_name(out: &mut impl Write, payload: &[u8]) -> io::Result<()> {
     if payload.len() >= 12 && ends(payload, 8) {
-        name_fields(payload);
-        return;
+        return name_fields(out, payload);
     }
-    refuse(b"M");
+    refuse(out, b"M")
 }

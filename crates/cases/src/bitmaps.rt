@@ -5,6 +5,8 @@ use crate::fields::{ends, refuse};
 use crate::hash;
 use printing::text;
 use rect::Rect;
+use std::io;
+use std::io::Write;
 
 fn copy(from: &[u8], to: &mut [u8]) {
     let mut i = 0;
@@ -15,6 +17,7 @@ fn copy(from: &[u8], to: &mut [u8]) {
 }
 
 fn place_on(
+    out: &mut impl Write,
     width: u32,
     height: u32,
     r: Rect,
@@ -22,13 +25,13 @@ fn place_on(
     canvas: &[u8],
     plane: &[u8],
     pixels: &mut [u8],
-) {
+) -> io::Result<()> {
     copy(canvas, pixels);
     let a = canvas::place(width, height, pixels, r, plane, row);
-    text(b"C");
-    printing::number(a.number() as u64);
-    printing::number(hash::of_bytes(pixels) as u64);
-    text(b"\n");
+    text(out, b"C")?;
+    printing::number(out, a.number() as u64)?;
+    printing::number(out, hash::of_bytes(pixels) as u64)?;
+    text(out, b"\n")
 }
 
 fn pixels() -> [u8; 65600]
@@ -37,44 +40,59 @@ fn pixels() -> [u8; 65600]
     [0; 65600]
 }
 
-fn place(width: u32, height: u32, r: Rect, row: u32, canvas: &[u8], plane: &[u8]) {
+fn place(
+    out: &mut impl Write,
+    width: u32,
+    height: u32,
+    r: Rect,
+    row: u32,
+    canvas: &[u8],
+    plane: &[u8],
+) -> io::Result<()> {
     let size = canvas.len();
     if 65600 < size {
-        refuse(b"C");
-        return;
+        return refuse(out, b"C");
     }
     let mut copied = pixels();
-    place_on(width, height, r, row, canvas, plane, &mut copied[..size]);
+    place_on(
+        out,
+        width,
+        height,
+        r,
+        row,
+        canvas,
+        plane,
+        &mut copied[..size],
+    )
 }
 
 // The canvas goes from 32 to an end, and the plane's length stands there.
-fn parts(payload: &[u8], end: usize)
+fn parts(out: &mut impl Write, payload: &[u8], end: usize) -> io::Result<()>
     requires { (32 ≤ end) × (end + 4 ≤ length payload.now) }
 {
     place(
+        out,
         endian::u32_at(payload, 0),
         endian::u32_at(payload, 4),
         Rect::decode(payload, 8),
         endian::u32_at(payload, 24),
         &payload[32..end],
         &payload[end + 4..],
-    );
+    )
 }
 
-fn parted(payload: &[u8], end: usize)
+fn parted(out: &mut impl Write, payload: &[u8], end: usize) -> io::Result<()>
     requires { (32 ≤ end) × (end < 4294967328) }
 {
     if end + 4 <= payload.len() && ends(payload, end) {
-        parts(payload, end);
-        return;
+        return parts(out, payload, end);
     }
-    refuse(b"C");
+    refuse(out, b"C")
 }
 
-pub fn canvas(payload: &[u8]) {
+pub fn canvas(out: &mut impl Write, payload: &[u8]) -> io::Result<()> {
     if payload.len() < 32 {
-        refuse(b"C");
-        return;
+        return refuse(out, b"C");
     }
-    parted(payload, 32 + endian::u32_at(payload, 28) as usize);
+    parted(out, payload, 32 + endian::u32_at(payload, 28) as usize)
 }

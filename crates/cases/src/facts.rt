@@ -5,77 +5,79 @@ use chunk::area::Area;
 use chunk::layer_information::LayerChunk;
 use chunk::mask::Mask;
 use rect::Rect;
+use std::io;
+use std::io::Write;
 
-fn byte(x: u8) {
-    printing::number(x as u64);
+fn byte(out: &mut impl Write, x: u8) -> io::Result<()> {
+    printing::number(out, x as u64)
 }
 
-fn word(x: u16) {
-    printing::number(x as u64);
+fn word(out: &mut impl Write, x: u16) -> io::Result<()> {
+    printing::number(out, x as u64)
 }
 
-fn dword(x: u32) {
-    printing::number(x as u64);
+fn dword(out: &mut impl Write, x: u32) -> io::Result<()> {
+    printing::number(out, x as u64)
 }
 
-fn flag(b: bool) {
-    printing::number(b as u64);
+fn flag(out: &mut impl Write, b: bool) -> io::Result<()> {
+    printing::number(out, b as u64)
 }
 
-pub fn corners(r: Rect) {
-    printing::signed(r.left);
-    printing::signed(r.top);
-    printing::signed(r.right);
-    printing::signed(r.bottom);
+pub fn corners(out: &mut impl Write, r: Rect) -> io::Result<()> {
+    printing::signed(out, r.left)?;
+    printing::signed(out, r.top)?;
+    printing::signed(out, r.right)?;
+    printing::signed(out, r.bottom)
 }
 
-fn area(a: Area) {
-    corners(a.border);
-    corners(a.saved);
+fn area(out: &mut impl Write, a: Area) -> io::Result<()> {
+    corners(out, a.border)?;
+    corners(out, a.saved)
 }
 
-pub fn image(i: ImageChunk) {
-    printing::signed(i.width);
-    printing::signed(i.height);
-    printing::number(i.bits);
-    byte(i.resolution.metric);
-    word(i.compression);
-    word(i.depth);
-    word(i.planes);
-    colours(i);
+pub fn image(out: &mut impl Write, i: ImageChunk) -> io::Result<()> {
+    printing::signed(out, i.width)?;
+    printing::signed(out, i.height)?;
+    printing::number(out, i.bits)?;
+    byte(out, i.resolution.metric)?;
+    word(out, i.compression)?;
+    word(out, i.depth)?;
+    word(out, i.planes)?;
+    colours(out, i)
 }
 
-fn colours(i: ImageChunk) {
-    dword(i.colours);
-    byte(i.grey);
-    dword(i.total);
-    printing::signed(i.active);
-    word(i.layers);
+fn colours(out: &mut impl Write, i: ImageChunk) -> io::Result<()> {
+    dword(out, i.colours)?;
+    byte(out, i.grey)?;
+    dword(out, i.total)?;
+    printing::signed(out, i.active)?;
+    word(out, i.layers)
 }
 
-pub fn layer(l: LayerChunk) {
-    byte(l.kind);
-    byte(l.opacity);
-    byte(l.blending);
-    flags(l);
-    word(l.blends);
-    word(l.bitmaps);
-    word(l.channels);
-    area(l.image);
-    area(l.mask);
+pub fn layer(out: &mut impl Write, l: LayerChunk) -> io::Result<()> {
+    byte(out, l.kind)?;
+    byte(out, l.opacity)?;
+    byte(out, l.blending)?;
+    flags(out, l)?;
+    word(out, l.blends)?;
+    word(out, l.bitmaps)?;
+    word(out, l.channels)?;
+    area(out, l.image)?;
+    area(out, l.mask)
 }
 
-pub fn mask(m: Mask) {
-    word(m.bitmaps);
-    word(m.channels);
-    area(m.area);
+pub fn mask(out: &mut impl Write, m: Mask) -> io::Result<()> {
+    word(out, m.bitmaps)?;
+    word(out, m.channels)?;
+    area(out, m.area)
 }
 
-fn flags(l: LayerChunk) {
-    flag(l.visible);
-    flag(l.protected);
-    byte(l.group);
-    flag(l.linked);
-    flag(l.disabled);
-    flag(l.inverted);
+fn flags(out: &mut impl Write, l: LayerChunk) -> io::Result<()> {
+    flag(out, l.visible)?;
+    flag(out, l.protected)?;
+    byte(out, l.group)?;
+    flag(out, l.linked)?;
+    flag(out, l.disabled)?;
+    flag(out, l.inverted)
 }

@@ -2,11 +2,13 @@
 ghost use Rattle.std.specs.Prelude.{◌+◌, ◌≤◌, length};
 
 use printing::text;
+use std::io;
+use std::io::Write;
 
 // The line of a payload that does not fit its kind.
-pub fn refuse(kind: &[u8]) {
-    text(kind);
-    text(b" !\n");
+pub fn refuse(out: &mut impl Write, kind: &[u8]) -> io::Result<()> {
+    text(out, kind)?;
+    text(out, b" !\n")
 }
 
 // Whether the byte string at a place ends the payload.

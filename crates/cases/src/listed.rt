@@ -7,26 +7,33 @@ use crate::{asked, hash};
 use answer::Outcome;
 use entry::Entry;
 use printing::text;
+use std::io;
+use std::io::Write;
 
 // The largest room of a table, and the most numbers that it then has.
 const ROOM: u32 = 512;
 
 pub const NUMBERS: usize = 7181;
 
-fn answered(kind: &[u8], o: Outcome) {
+fn answered(out: &mut impl Write, kind: &[u8], o: Outcome) -> io::Result<()> {
     let told = o.told();
-    text(kind);
-    printing::number(told.number as u64);
-    printing::number(told.place as u64);
-    printing::number(told.count as u64);
+    text(out, kind)?;
+    printing::number(out, told.number as u64)?;
+    printing::number(out, told.place as u64)?;
+    printing::number(out, told.count as u64)
 }
 
-fn listing_into(input: &[u8], room: usize, table: &mut [u32]) {
+fn listing_into(
+    out: &mut impl Write,
+    input: &[u8],
+    room: usize,
+    table: &mut [u32],
+) -> io::Result<()> {
     let outcome = listing::list(input, table);
-    answered(b"L", outcome);
-    printing::number(hash::of_numbers(table) as u64);
-    printing::number(asked::all(input, room, outcome.count) as u64);
-    text(b"\n");
+    answered(out, b"L", outcome)?;
+    printing::number(out, hash::of_numbers(table) as u64)?;
+    printing::number(out, asked::all(input, room, outcome.count) as u64)?;
+    text(out, b"\n")
 }
 
 pub fn table() -> [u32; 7181]
@@ -35,43 +42,40 @@ pub fn table() -> [u32; 7181]
     [4008636142; 7181]
 }
 
-fn lent(input: &[u8], room: u32) {
+fn lent(out: &mut impl Write, input: &[u8], room: u32) -> io::Result<()> {
     if ROOM < room {
-        refuse(b"L");
-        return;
+        return refuse(out, b"L");
     }
     let entries = room as usize;
     let size = entries * Entry::SIZE + input.len() % Entry::SIZE;
     let mut numbers = table();
-    listing_into(input, entries, &mut numbers[..size]);
+    listing_into(out, input, entries, &mut numbers[..size])
 }
 
-fn fields(payload: &[u8])
+fn fields(out: &mut impl Write, payload: &[u8]) -> io::Result<()>
     requires { 8 ≤ length payload.now }
 {
-    lent(&payload[8..], endian::u32_at(payload, 0));
+    lent(out, &payload[8..], endian::u32_at(payload, 0))
 }
 
-pub fn listing(payload: &[u8]) {
+pub fn listing(out: &mut impl Write, payload: &[u8]) -> io::Result<()> {
     if payload.len() >= 8 && ends(payload, 4) {
-        fields(payload);
-        return;
+        return fields(out, payload);
     }
-    refuse(b"L");
+    refuse(out, b"L")
 }
 
-fn count_fields(payload: &[u8])
+fn count_fields(out: &mut impl Write, payload: &[u8]) -> io::Result<()>
     requires { 8 ≤ length payload.now }
 {
     let room = endian::u32_at(payload, 0) as usize;
-    answered(b"T", listing::count(&payload[8..], room));
-    text(b"\n");
+    answered(out, b"T", listing::count(&payload[8..], room))?;
+    text(out, b"\n")
 }
 
-pub fn count(payload: &[u8]) {
+pub fn count(out: &mut impl Write, payload: &[u8]) -> io::Result<()> {
     if payload.len() >= 8 && ends(payload, 4) {
-        count_fields(payload);
-        return;
+        return count_fields(out, payload);
     }
-    refuse(b"T");
+    refuse(out, b"T")
 }

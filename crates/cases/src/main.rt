@@ -1,5 +1,7 @@
 // Answers cases of the library's calls, read from standard input: a kind byte, the payload's length as four bytes, the payload. Each case
 // has one line: its kind, then the answer's numbers, then a hash of every buffer that the call could write.
+#![tactic(auto)]
+
 mod areas;
 mod asked;
 mod bitmaps;
@@ -14,15 +16,19 @@ mod tables;
 mod values;
 mod views;
 
+use printing::Held;
+use std::io;
+use std::io::{Read, Write};
+
 // Bytes of the longest payload: 300,000 blocks fit.
 const SIZE: usize = 4194304;
 
 // The array's type says its length, which is not counted then.
-fn lent(payload: &mut [u8; SIZE]) {
-    reader::all(payload);
+fn lent(input: &mut impl Read, out: &mut impl Write, payload: &mut [u8; SIZE]) -> io::Result<()> {
+    reader::all(input, out, payload)
 }
 
-fn main() {
+fn main(rt: HostRuntime) -> io::Result<()> {
     let mut payload = [0u8; SIZE];
-    lent(&mut payload);
+    lent(&mut rt.stdin(), &mut Held::new(&rt), &mut payload)
 }

@@ -6,51 +6,52 @@ use crate::fields::{ends, refuse};
 use crate::views::{numbered, placed};
 use crate::{areas, facts, views};
 use printing::text;
+use std::io;
+use std::io::Write;
 use view::Part;
 
-fn name(kind: &[u8], p: Part) {
-    numbered(kind, p.number);
-    placed(p);
+fn name(out: &mut impl Write, kind: &[u8], p: Part) -> io::Result<()> {
+    numbered(out, kind, p.number)?;
+    placed(out, p)
 }
 
-fn layer(input: &[u8], place: usize) {
+fn layer(out: &mut impl Write, input: &[u8], place: usize) -> io::Result<()> {
     let f = view::layer_at(input, place);
-    numbered(b" Y", f.number);
-    views::layer(f.layer);
-    name(b" N", view::name_at(input, place));
+    numbered(out, b" Y", f.number)?;
+    views::layer(out, f.layer)?;
+    name(out, b" N", view::name_at(input, place))
 }
 
-fn selection(input: &[u8], place: usize) {
+fn selection(out: &mut impl Write, input: &[u8], place: usize) -> io::Result<()> {
     let f = mask_view::selection_at(input, place);
-    numbered(b" S", f.number);
-    facts::mask(f.selection.mask);
+    numbered(out, b" S", f.number)?;
+    facts::mask(out, f.selection.mask)
 }
 
-fn alpha(input: &[u8], place: usize) {
+fn alpha(out: &mut impl Write, input: &[u8], place: usize) -> io::Result<()> {
     let f = mask_view::alpha_at(input, place);
-    numbered(b" A", f.number);
-    areas::alpha(f.alpha);
-    name(b" M", mask_view::alpha_name_at(input, place));
+    numbered(out, b" A", f.number)?;
+    areas::alpha(out, f.alpha)?;
+    name(out, b" M", mask_view::alpha_name_at(input, place))
 }
 
-fn line(input: &[u8], place: usize) {
-    text(b"H");
-    layer(input, place);
-    selection(input, place);
-    alpha(input, place);
-    text(b"\n");
+fn line(out: &mut impl Write, input: &[u8], place: usize) -> io::Result<()> {
+    text(out, b"H")?;
+    layer(out, input, place)?;
+    selection(out, input, place)?;
+    alpha(out, input, place)?;
+    text(out, b"\n")
 }
 
-fn fields(payload: &[u8])
+fn fields(out: &mut impl Write, payload: &[u8]) -> io::Result<()>
     requires { 12 ≤ length payload.now }
 {
-    line(&payload[12..], endian::u64_at(payload, 0) as usize);
+    line(out, &payload[12..], endian::u64_at(payload, 0) as usize)
 }
 
-pub fn place(payload: &[u8]) {
+pub fn place(out: &mut impl Write, payload: &[u8]) -> io::Result<()> {
     if payload.len() >= 12 && ends(payload, 8) {
-        fields(payload);
-        return;
+        return fields(out, payload);
     }
-    refuse(b"H");
+    refuse(out, b"H")
 }

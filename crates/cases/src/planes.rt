@@ -6,6 +6,8 @@ use crate::fields::{ends, refuse};
 use crate::hash;
 use packet::Plane;
 use printing::text;
+use std::io;
+use std::io::Write;
 
 // The longest destination.
 pub const DESTINATION: u32 = 20000;
@@ -16,120 +18,135 @@ pub fn held() -> [u8; 20000]
     [238; 20000]
 }
 
-fn plane_line(kind: &[u8], a: Plane, dest: &[u8]) {
-    text(kind);
-    printing::number(a.number as u64);
-    printing::number(a.place as u64);
-    printing::number(a.bytes as u64);
-    printing::number(hash::of_bytes(dest) as u64);
-    text(b"\n");
+fn plane_line(out: &mut impl Write, kind: &[u8], a: Plane, dest: &[u8]) -> io::Result<()> {
+    text(out, kind)?;
+    printing::number(out, a.number as u64)?;
+    printing::number(out, a.place as u64)?;
+    printing::number(out, a.bytes as u64)?;
+    printing::number(out, hash::of_bytes(dest) as u64)?;
+    text(out, b"\n")
 }
 
-fn plane_into(input: &[u8], start: usize, stored: usize, plane: usize, code: u32, dest: &mut [u8]) {
+fn plane_into(
+    out: &mut impl Write,
+    input: &[u8],
+    start: usize,
+    stored: usize,
+    plane: usize,
+    code: u32,
+    dest: &mut [u8],
+) -> io::Result<()> {
     let a = reading::read_plane(input, start, stored, plane, code, dest);
-    plane_line(b"P", a.told(), dest);
+    plane_line(out, b"P", a.told(), dest)
 }
 
 fn plane_lent(
+    out: &mut impl Write,
     input: &[u8],
     start: usize,
     stored: usize,
     plane: usize,
     code: u32,
     destination: u32,
-) {
+) -> io::Result<()> {
     if DESTINATION < destination {
-        refuse(b"P");
-        return;
+        return refuse(out, b"P");
     }
     let size = destination as usize;
     let mut dest = held();
-    plane_into(input, start, stored, plane, code, &mut dest[..size]);
+    plane_into(out, input, start, stored, plane, code, &mut dest[..size])
 }
 
-fn plane_fields(payload: &[u8])
+fn plane_fields(out: &mut impl Write, payload: &[u8]) -> io::Result<()>
     requires { 36 ≤ length payload.now }
 {
     plane_lent(
+        out,
         &payload[36..],
         endian::u64_at(payload, 0) as usize,
         endian::u64_at(payload, 8) as usize,
         endian::u64_at(payload, 16) as usize,
         endian::u32_at(payload, 24),
         endian::u32_at(payload, 28),
-    );
+    )
 }
 
-pub fn plane(payload: &[u8]) {
+pub fn plane(out: &mut impl Write, payload: &[u8]) -> io::Result<()> {
     if payload.len() >= 36 && ends(payload, 32) {
-        plane_fields(payload);
-        return;
+        return plane_fields(out, payload);
     }
-    refuse(b"P");
+    refuse(out, b"P")
 }
 
-fn packets_into(stream: &[u8], plane: usize, dest: &mut [u8]) {
+fn packets_into(
+    out: &mut impl Write,
+    stream: &[u8],
+    plane: usize,
+    dest: &mut [u8],
+) -> io::Result<()> {
     let a = reading::unpack(stream, dest, plane);
-    plane_line(b"U", a.told(), dest);
+    plane_line(out, b"U", a.told(), dest)
 }
 
-fn packets_lent(stream: &[u8], plane: usize, destination: u32) {
+fn packets_lent(
+    out: &mut impl Write,
+    stream: &[u8],
+    plane: usize,
+    destination: u32,
+) -> io::Result<()> {
     if DESTINATION < destination {
-        refuse(b"U");
-        return;
+        return refuse(out, b"U");
     }
     let size = destination as usize;
     let mut dest = held();
-    packets_into(stream, plane, &mut dest[..size]);
+    packets_into(out, stream, plane, &mut dest[..size])
 }
 
-fn packets_fields(payload: &[u8])
+fn packets_fields(out: &mut impl Write, payload: &[u8]) -> io::Result<()>
     requires { 16 ≤ length payload.now }
 {
     packets_lent(
+        out,
         &payload[16..],
         endian::u64_at(payload, 0) as usize,
         endian::u32_at(payload, 8),
-    );
+    )
 }
 
-pub fn packets(payload: &[u8]) {
+pub fn packets(out: &mut impl Write, payload: &[u8]) -> io::Result<()> {
     if payload.len() >= 16 && ends(payload, 12) {
-        packets_fields(payload);
-        return;
+        return packets_fields(out, payload);
     }
-    refuse(b"U");
+    refuse(out, b"U")
 }
 
-fn pack_into(plane: &[u8], dest: &mut [u8]) {
+fn pack_into(out: &mut impl Write, plane: &[u8], dest: &mut [u8]) -> io::Result<()> {
     let a = packer::pack(plane, dest).told();
-    text(b"K");
-    printing::number(a.number as u64);
-    printing::number(a.length as u64);
-    printing::number(hash::of_bytes(dest) as u64);
-    text(b"\n");
+    text(out, b"K")?;
+    printing::number(out, a.number as u64)?;
+    printing::number(out, a.length as u64)?;
+    printing::number(out, hash::of_bytes(dest) as u64)?;
+    text(out, b"\n")
 }
 
-fn pack_lent(plane: &[u8], destination: u32) {
+fn pack_lent(out: &mut impl Write, plane: &[u8], destination: u32) -> io::Result<()> {
     if DESTINATION < destination {
-        refuse(b"K");
-        return;
+        return refuse(out, b"K");
     }
     let size = destination as usize;
     let mut dest = held();
-    pack_into(plane, &mut dest[..size]);
+    pack_into(out, plane, &mut dest[..size])
 }
 
-fn pack_fields(payload: &[u8])
+fn pack_fields(out: &mut impl Write, payload: &[u8]) -> io::Result<()>
     requires { 8 ≤ length payload.now }
 {
-    pack_lent(&payload[8..], endian::u32_at(payload, 0));
+    pack_lent(out, &payload[8..], endian::u32_at(payload, 0))
 }
 
-pub fn pack(payload: &[u8]) {
+pub fn pack(out: &mut impl Write, payload: &[u8]) -> io::Result<()> {
     if payload.len() >= 8 && ends(payload, 4) {
-        pack_fields(payload);
-        return;
+        return pack_fields(out, payload);
     }
-    refuse(b"K");
+    refuse(out, b"K")
 }

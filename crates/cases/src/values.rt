@@ -4,16 +4,17 @@ use crate::fields::refuse;
 use attributes::resolution::{Density, Resolution};
 use printing::text;
 use rect::Rect;
+use std::io;
+use std::io::Write;
 
-pub fn intersection(payload: &[u8]) {
+pub fn intersection(out: &mut impl Write, payload: &[u8]) -> io::Result<()> {
     if payload.len() != 32 {
-        refuse(b"I");
-        return;
+        return refuse(out, b"I");
     }
     let r = rect::intersect(Rect::decode(payload, 0), Rect::decode(payload, 16));
-    text(b"I");
-    facts::corners(r);
-    text(b"\n");
+    text(out, b"I")?;
+    facts::corners(out, r)?;
+    text(out, b"\n")
 }
 
 // The bits of a double above 0, and of 0 itself. A NaN has none of its own.
@@ -24,25 +25,24 @@ fn bits_of(x: f64) -> u64 {
     0
 }
 
-fn dots_line(d: Density) {
+fn dots_line(out: &mut impl Write, d: Density) -> io::Result<()> {
     match d {
-        Density::Absent => text(b"D 0 0\n"),
+        Density::Absent => text(out, b"D 0 0\n"),
         Density::Dots(x) => {
-            text(b"D 1");
-            printing::number(bits_of(x));
-            text(b"\n");
+            text(out, b"D 1")?;
+            printing::number(out, bits_of(x))?;
+            text(out, b"\n")
         }
     }
 }
 
-pub fn dots(payload: &[u8]) {
+pub fn dots(out: &mut impl Write, payload: &[u8]) -> io::Result<()> {
     if payload.len() != 9 {
-        refuse(b"D");
-        return;
+        return refuse(out, b"D");
     }
     let r = Resolution {
         value: endian::double_of(endian::u64_at(payload, 0)),
         metric: endian::u8_at(payload, 8),
     };
-    dots_line(r.per_centimetre());
+    dots_line(out, r.per_centimetre())
 }

@@ -6,39 +6,51 @@ use crate::fields::{ends, refuse};
 use crate::{facts, hash};
 use chunk::layer_information::LayerChunk;
 use printing::text;
+use std::io;
+use std::io::Write;
 use view::Part;
 
 // The longest ramp.
 const RAMP: u32 = 2048;
 
-pub fn numbered(kind: &[u8], number: u32) {
-    text(kind);
-    printing::number(number as u64);
+pub fn numbered(out: &mut impl Write, kind: &[u8], number: u32) -> io::Result<()> {
+    text(out, kind)?;
+    printing::number(out, number as u64)
 }
 
-pub fn placed(p: Part) {
-    printing::number(p.start as u64);
-    printing::number(p.length as u64);
+pub fn placed(out: &mut impl Write, p: Part) -> io::Result<()> {
+    printing::number(out, p.start as u64)?;
+    printing::number(out, p.length as u64)
 }
 
-pub fn shown(number: u32, part: &[u8]) {
-    printing::number(number as u64);
-    printing::number(hash::of_bytes(part) as u64);
-    text(b"\n");
+pub fn shown(out: &mut impl Write, number: u32, part: &[u8]) -> io::Result<()> {
+    printing::number(out, number as u64)?;
+    printing::number(out, hash::of_bytes(part) as u64)?;
+    text(out, b"\n")
 }
 
-fn palette_shown<'a, 'b: 'a>(input: &'a [u8], room: usize, ramp: &'b [u8]) {
+fn palette_shown<'a, 'b: 'a>(
+    out: &mut impl Write,
+    input: &'a [u8],
+    room: usize,
+    ramp: &'b [u8],
+) -> io::Result<()> {
     let mut number = 99;
     let part = view::palette(input, room, ramp, &mut number);
-    shown(number, part);
+    shown(out, number, part)
 }
 
-fn palette_of<'a>(input: &'a [u8], room: usize, ramp: &'a [u8]) {
+fn palette_of<'a>(
+    out: &mut impl Write,
+    input: &'a [u8],
+    room: usize,
+    ramp: &'a [u8],
+) -> io::Result<()> {
     let p = view::palette_part(input, room, ramp.len());
-    numbered(b"V", p.number);
-    printing::number(p.which as u64);
-    placed(p);
-    palette_shown(input, room, ramp);
+    numbered(out, b"V", p.number)?;
+    printing::number(out, p.which as u64)?;
+    placed(out, p)?;
+    palette_shown(out, input, room, ramp)
 }
 
 fn grey() -> [u8; 2048]
@@ -47,49 +59,47 @@ fn grey() -> [u8; 2048]
     [238; 2048]
 }
 
-fn palette_lent(input: &[u8], room: usize, ramp: u32) {
+fn palette_lent(out: &mut impl Write, input: &[u8], room: usize, ramp: u32) -> io::Result<()> {
     if RAMP < ramp {
-        refuse(b"V");
-        return;
+        return refuse(out, b"V");
     }
     let size = ramp as usize;
     let bytes = grey();
-    palette_of(input, room, &bytes[..size]);
+    palette_of(out, input, room, &bytes[..size])
 }
 
-fn palette_fields(payload: &[u8])
+fn palette_fields(out: &mut impl Write, payload: &[u8]) -> io::Result<()>
     requires { 12 ≤ length payload.now }
 {
     palette_lent(
+        out,
         &payload[12..],
         endian::u32_at(payload, 0) as usize,
         endian::u32_at(payload, 4),
-    );
+    )
 }
 
-pub fn palette(payload: &[u8]) {
+pub fn palette(out: &mut impl Write, payload: &[u8]) -> io::Result<()> {
     if payload.len() >= 12 && ends(payload, 8) {
-        palette_fields(payload);
-        return;
+        return palette_fields(out, payload);
     }
-    refuse(b"V");
+    refuse(out, b"V")
 }
 
-fn image_fields(payload: &[u8])
+fn image_fields(out: &mut impl Write, payload: &[u8]) -> io::Result<()>
     requires { 8 ≤ length payload.now }
 {
     let f = view::image_facts(&payload[8..], endian::u32_at(payload, 0) as usize);
-    numbered(b"F", f.number);
-    facts::image(f.image);
-    text(b"\n");
+    numbered(out, b"F", f.number)?;
+    facts::image(out, f.image)?;
+    text(out, b"\n")
 }
 
-pub fn image_facts(payload: &[u8]) {
+pub fn image_facts(out: &mut impl Write, payload: &[u8]) -> io::Result<()> {
     if payload.len() >= 8 && ends(payload, 4) {
-        image_fields(payload);
-        return;
+        return image_fields(out, payload);
     }
-    refuse(b"F");
+    refuse(out, b"F")
 }
 
 fn name_hash(l: LayerChunk) -> u32 {
@@ -102,13 +112,13 @@ fn ranges_hash(l: LayerChunk) -> u32 {
     hash::of_bytes(&ranges)
 }
 
-pub fn layer(l: LayerChunk) {
-    facts::layer(l);
-    printing::number(name_hash(l) as u64);
-    printing::number(ranges_hash(l) as u64);
+pub fn layer(out: &mut impl Write, l: LayerChunk) -> io::Result<()> {
+    facts::layer(out, l)?;
+    printing::number(out, name_hash(l) as u64)?;
+    printing::number(out, ranges_hash(l) as u64)
 }
 
-fn layer_fields(payload: &[u8])
+fn layer_fields(out: &mut impl Write, payload: &[u8]) -> io::Result<()>
     requires { 12 ≤ length payload.now }
 {
     let f = view::layer_facts(
@@ -116,46 +126,45 @@ fn layer_fields(payload: &[u8])
         endian::u32_at(payload, 0) as usize,
         endian::u32_at(payload, 4),
     );
-    numbered(b"Y", f.number);
-    layer(f.layer);
-    text(b"\n");
+    numbered(out, b"Y", f.number)?;
+    layer(out, f.layer)?;
+    text(out, b"\n")
 }
 
-pub fn layer_facts(payload: &[u8]) {
+pub fn layer_facts(out: &mut impl Write, payload: &[u8]) -> io::Result<()> {
     if payload.len() >= 12 && ends(payload, 8) {
-        layer_fields(payload);
-        return;
+        return layer_fields(out, payload);
     }
-    refuse(b"Y");
+    refuse(out, b"Y")
 }
 
-fn name_shown(input: &[u8], room: usize, k: u32) {
+fn name_shown(out: &mut impl Write, input: &[u8], room: usize, k: u32) -> io::Result<()> {
     let mut number = 99;
     let part = view::name(input, room, k, &mut number);
-    shown(number, part);
+    shown(out, number, part)
 }
 
-fn name_of(input: &[u8], room: usize, k: u32) {
+fn name_of(out: &mut impl Write, input: &[u8], room: usize, k: u32) -> io::Result<()> {
     let p = view::name_part(input, room, k);
-    numbered(b"N", p.number);
-    placed(p);
-    name_shown(input, room, k);
+    numbered(out, b"N", p.number)?;
+    placed(out, p)?;
+    name_shown(out, input, room, k)
 }
 
-fn name_fields(payload: &[u8])
+fn name_fields(out: &mut impl Write, payload: &[u8]) -> io::Result<()>
     requires { 12 ≤ length payload.now }
 {
     name_of(
+        out,
         &payload[12..],
         endian::u32_at(payload, 0) as usize,
         endian::u32_at(payload, 4),
-    );
+    )
 }
 
-pub fn layer_name(payload: &[u8]) {
+pub fn layer_name(out: &mut impl Write, payload: &[u8]) -> io::Result<()> {
     if payload.len() >= 12 && ends(payload, 8) {
-        name_fields(payload);
-        return;
+        return name_fields(out, payload);
     }
-    refuse(b"N");
+    refuse(out, b"N")
 }

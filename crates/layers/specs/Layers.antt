@@ -10,7 +10,6 @@ use Rattle.entry.specs.Entry.{block, code, content, ranked}
 use Rattle.walk.specs.Walk.{Stop, Leaf}
 use Rattle.walk.specs.Unit.{unit}
 use Rattle.headers.specs.BlockHeader.{block_header_size}
-use Rattle.chunk.specs.declared.layer_information.LayerChunk.{LayerChunk}
 use Rattle.chunk.specs.declared.channel_information.ChannelChunk.{ChannelChunk}
 use Rattle.chunk.specs.Heads.{layer_head, channel_head}
 use Rattle.chunk.specs.LayerInformation.{layer_size, layer_of, layer_fault}

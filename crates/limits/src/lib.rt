@@ -1,5 +1,6 @@
 // The limits of document 01, "What is read and what is only listed", of which document 02, request ix, raised input, sides and plane.
 // specs/Limits.antt says the same numbers to the proofs.
+#![tactic(auto)]
 
 // Bytes of an input.
 pub const INPUT: usize = 1073741824;

@@ -1,5 +1,8 @@
 // Document 01's listing: the blocks of an input in file order, as entries of a table. One walk serves every use of it: it takes a room
 // in entries beside the lent table, stores an entry only where the table reaches, and answers one question about the entries.
+
+#![tactic(auto)]
+
 mod head;
 mod lister;
 mod question;

@@ -12,7 +12,6 @@ use Rattle.chunk.specs.declared.channel_information.ChannelChunk.{ChannelChunk}
 use Rattle.chunk.specs.declared.layer_information.LayerChunk.{LayerChunk}
 use Rattle.chunk.specs.declared.mask.Mask.{Mask}
 use Rattle.chunk.specs.declared.selection_information.SelectionChunk.{SelectionChunk}
-use Rattle.memory.specs.declared.parent.Open.{Open}
 use Rattle.memory.specs.declared.parent.Open.TheVariants as opens
 use Rattle.memory.specs.declared.parent.Parent.{Parent}
 use Rattle.memory.specs.declared.parent.Parent.TheVariants.{Main, Bank, Layer, Selection, AlphaBank, Alpha}

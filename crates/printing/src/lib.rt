@@ -1,37 +1,51 @@
-// What the programs print with, in one place: text, and each number and byte after a space, to standard output.
-use libc::STDOUT_FILENO;
+// What the programs read and print with, in one place: text, and each number and byte after a space, to any writer.
+#![tactic(auto)]
 
-pub fn text(s: &[u8]) {
-    io::write_all(STDOUT_FILENO, s);
+mod held;
+mod input;
+
+ghost use Rattle.std.specs.Prelude.{◌∷◌, OnOk, flat_map, decimal};
+ghost use Rattle.std.specs.Fmt.{signed_decimal};
+ghost use Rattle.std.specs.Io.KnownBytes.{Appends};
+ghost use Rattle.printing.specs.Printed.{printed_byte};
+
+pub use held::Held;
+pub use input::read_full;
+use std::io;
+use std::io::Write;
+
+pub fn text<W: Write>(out: &mut W, s: &[u8]) -> io::Result<()>
+    ensures { OnOk result (Appends (W.contents out.old) (W.contents out.new) s.now) }
+{
+    out.write_all(s)
 }
 
-pub fn number(n: u64) {
-    text(b" ");
-    io::print_decimal(STDOUT_FILENO, n);
+pub fn number<W: Write>(out: &mut W, n: u64) -> io::Result<()>
+    ensures { OnOk result (Appends (W.contents out.old) (W.contents out.new) (32 ∷ decimal n)) }
+{
+    write!(out, " {n}")
 }
 
-// A signed number. -1 - z is at least 0 where z is below, and has room for one more in 64 bits.
-pub fn signed(z: i32) {
-    if z < 0 {
-        let below = -1 - z;
-        let size = below as u64 + 1;
-        text(b" -");
-        io::print_decimal(STDOUT_FILENO, size);
-        return;
-    }
-    number(z as u64);
+// A signed number.
+pub fn signed<W: Write>(out: &mut W, z: i32) -> io::Result<()>
+    ensures { OnOk result (Appends (W.contents out.old) (W.contents out.new) (32 ∷ signed_decimal z)) }
+{
+    write!(out, " {z}")
 }
 
 // A byte in hexadecimal.
-pub fn byte(b: u8) {
-    text(b" ");
-    io::print_hex(STDOUT_FILENO, b as u64, 2);
+#[tactic(auto, using(std::proofs::lemmas::Fmt::hex_byte))]
+pub fn byte<W: Write>(out: &mut W, b: u8) -> io::Result<()>
+    ensures { OnOk result (Appends (W.contents out.old) (W.contents out.new) (printed_byte b)) }
+{
+    write!(out, " {b:02x}")
 }
 
-pub fn bytes(s: &[u8]) {
-    let mut i = 0;
-    while i < s.len() {
-        byte(s[i]);
-        i += 1;
+pub fn bytes<W: Write>(out: &mut W, s: &[u8]) -> io::Result<()>
+    ensures { OnOk result (Appends (W.contents out.old) (W.contents out.new) (flat_map printed_byte s.now)) }
+{
+    for b in s {
+        byte(out, *b)?;
     }
+    Ok(())
 }

@@ -7,8 +7,7 @@ ghost use Rattle.asking.specs.Told.{told};
 use asking::Asked;
 
 // Entry k of the listing in a room of so many entries; or the listing's final answer, where it has no such entry. Nothing is stored.
-#[unsafe(no_mangle)]
-pub extern "C" fn psp_entry_at(input: &[u8], room: usize, k: usize) -> Asked
+pub fn psp_entry_at(input: &[u8], room: usize, k: usize) -> Asked
     ensures { result ≡ told (asked (listed input.now room) k) }
 {
     let reply = asking::entry_at(input, room, k);

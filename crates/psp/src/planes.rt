@@ -7,8 +7,7 @@ use packer::Packed;
 use packet::Plane;
 
 // Reads the stored channel that is the part of the input from `start` for `stored` bytes. A refusal leaves dest untouched.
-#[unsafe(no_mangle)]
-pub extern "C" fn psp_read_plane(
+pub fn psp_read_plane(
     input: &[u8],
     start: usize,
     stored: usize,
@@ -23,8 +22,7 @@ pub extern "C" fn psp_read_plane(
 }
 
 // Reads a stream of packets. A refusal leaves dest untouched.
-#[unsafe(no_mangle)]
-pub extern "C" fn psp_unpack(stream: &[u8], dest: &mut [u8], plane: usize) -> Plane
+pub fn psp_unpack(stream: &[u8], dest: &mut [u8], plane: usize) -> Plane
     ensures { record { told = result; dest = dest.new } ≡ unpacked stream.now plane dest.old }
 {
     let answer = reading::unpack(stream, dest, plane);
@@ -32,8 +30,7 @@ pub extern "C" fn psp_unpack(stream: &[u8], dest: &mut [u8], plane: usize) -> Pl
 }
 
 // Packs a plane. A refusal leaves dest untouched, and no byte past the packed form changes.
-#[unsafe(no_mangle)]
-pub extern "C" fn psp_pack(plane: &[u8], dest: &mut [u8]) -> Packed
+pub fn psp_pack(plane: &[u8], dest: &mut [u8]) -> Packed
     ensures { record { told = result; dest = dest.new } ≡ packs plane.now dest.old }
 {
     let answer = packer::pack(plane, dest);

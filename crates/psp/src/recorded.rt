@@ -37,8 +37,7 @@ fn list_up_to(input: &[u8], most: usize, table: &mut [u32]) -> Told
 
 // Lists an input into a table and into records alike: the room is the smaller of the two. The answer is that of the listing in this room;
 // the first count entries stand in both, and both rests are untouched.
-#[unsafe(no_mangle)]
-pub extern "C" fn psp_list_records(input: &[u8], table: &mut [u32], records: &mut [Entry]) -> Told
+pub fn psp_list_records(input: &[u8], table: &mut [u32], records: &mut [Entry]) -> Told
     ensures { ListedRecords input.now table.old records.old result table.new records.new }
 {
     let most = records.len();

@@ -5,8 +5,7 @@ ghost use Rattle.listing.specs.Listing.{listed, told, lists};
 use answer::Told;
 
 // Lists an input into a table. The first count entries stand in it, whatever the answer; the rest is untouched.
-#[unsafe(no_mangle)]
-pub extern "C" fn psp_list(input: &[u8], table: &mut [u32]) -> Told
+pub fn psp_list(input: &[u8], table: &mut [u32]) -> Told
     ensures { record { told = result; dest = table.new } ≡ lists input.now table.old }
 {
     let outcome = listing::list(input, table);
@@ -14,8 +13,7 @@ pub extern "C" fn psp_list(input: &[u8], table: &mut [u32]) -> Told
 }
 
 // The answer of a listing with a room for so many entries; nothing is stored.
-#[unsafe(no_mangle)]
-pub extern "C" fn psp_count(input: &[u8], room: usize) -> Told
+pub fn psp_count(input: &[u8], room: usize) -> Told
     ensures { result ≡ told (listed input.now room) }
 {
     let outcome = listing::count(input, room);

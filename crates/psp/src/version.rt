@@ -6,8 +6,7 @@ ghost use Rattle.psp.specs.Version.{version};
 // 0.9.0: major times 10,000, minor times 100, patch.
 const VERSION: u32 = 900;
 
-#[unsafe(no_mangle)]
-pub extern "C" fn psp_version() -> u32
+pub fn psp_version() -> u32
     ensures { result ≡ version }
 {
     VERSION

@@ -6,8 +6,9 @@ ghost use Rattle.psplist.specs.Program.{program_lists};
 
 use answer::{Answer, Outcome, Told};
 use entry::Entry;
-use libc::STDOUT_FILENO;
 use printing::text;
+use std::io;
+use std::io::Write;
 
 // Bytes of the program's input, and the numbers of a table with room for its 512 entries.
 pub const INPUT: usize = 65536;
@@ -28,103 +29,104 @@ pub fn list(input: &[u8], table: &mut [u32]) -> Outcome
     listing::list(input, table)
 }
 
-pub fn show(input: &[u8]) {
+pub fn show(out: &mut impl Write, input: &[u8]) -> io::Result<()> {
     let mut table = [0u32; TABLE];
-    show_in(input, &mut table);
+    show_in(out, input, &mut table)
 }
 
 // The same with the room of a lent table.
-fn show_in(input: &[u8], table: &mut [u32]) {
+fn show_in(out: &mut impl Write, input: &[u8], table: &mut [u32]) -> io::Result<()> {
     let told = list(input, table).told();
-    first_line(told);
-    entries(table, told.count);
+    first_line(out, told)?;
+    entries(out, table, told.count)
 }
 
-fn first_line(told: Told) {
-    text(b"answer");
-    printing::number(told.number as u64);
-    text(b" place");
-    printing::number(told.place as u64);
-    text(b" entries");
-    printing::number(told.count as u64);
-    text(b"\n");
+fn first_line(out: &mut impl Write, told: Told) -> io::Result<()> {
+    text(out, b"answer")?;
+    printing::number(out, told.number as u64)?;
+    text(out, b" place")?;
+    printing::number(out, told.place as u64)?;
+    text(out, b" entries")?;
+    printing::number(out, told.count as u64)?;
+    text(out, b"\n")
 }
 
 // The first count entries, of those that the table has.
-fn entries(table: &[u32], count: usize) {
+fn entries(out: &mut impl Write, table: &[u32], count: usize) -> io::Result<()> {
     let mut index = 0;
     while index < count {
         if index < table.len() / Entry::SIZE {
-            line(index, Entry::read(table, index * Entry::SIZE));
+            line(out, index, Entry::read(table, index * Entry::SIZE))?;
         }
         index += 1;
     }
+    Ok(())
 }
 
-fn line(index: usize, e: Entry) {
-    io::print_decimal(STDOUT_FILENO, index as u64);
+fn line(out: &mut impl Write, index: usize, e: Entry) -> io::Result<()> {
+    write!(out, "{index}")?;
     if e.block.skipped == 0 {
-        kind(e.block.id);
-        common(e);
-        own(e);
+        kind(out, e.block.id)?;
+        common(out, e)?;
+        own(out, e)?;
     } else {
-        text(b" skip");
-        common(e);
-        content(e);
-        number(e.block.id);
+        text(out, b" skip")?;
+        common(out, e)?;
+        content(out, e)?;
+        number(out, e.block.id)?;
     }
-    text(b"\n");
+    text(out, b"\n")
 }
 
 // Of a block that is not skipped.
-fn kind(id: u32) {
+fn kind(out: &mut impl Write, id: u32) -> io::Result<()> {
     match id {
-        0 => text(b" image"),
-        2 => text(b" palette"),
-        3 => text(b" bank"),
-        4 => text(b" layer"),
-        6 => text(b" selection"),
-        7 => text(b" alphabank"),
-        8 => text(b" alpha"),
-        _ => text(b" channel"),
+        0 => text(out, b" image"),
+        2 => text(out, b" palette"),
+        3 => text(out, b" bank"),
+        4 => text(out, b" layer"),
+        6 => text(out, b" selection"),
+        7 => text(out, b" alphabank"),
+        8 => text(out, b" alpha"),
+        _ => text(out, b" channel"),
     }
 }
 
 // The numbers that every kind has.
-fn common(e: Entry) {
-    number(e.block.level);
-    number(e.block.place);
-    number(e.block.owned);
+fn common(out: &mut impl Write, e: Entry) -> io::Result<()> {
+    number(out, e.block.level)?;
+    number(out, e.block.place)?;
+    number(out, e.block.owned)
 }
 
 // The numbers that only some kinds have.
-fn own(e: Entry) {
+fn own(out: &mut impl Write, e: Entry) -> io::Result<()> {
     let id = e.block.id;
     match id {
-        2 => content(e),
-        4 => number(e.layer),
-        5 => channel(e),
-        8 => number(e.layer),
-        _ => {}
+        2 => content(out, e),
+        4 => number(out, e.layer),
+        5 => channel(out, e),
+        8 => number(out, e.layer),
+        _ => Ok(()),
     }
 }
 
-fn content(e: Entry) {
-    number(e.content.start);
-    number(e.content.stored);
+fn content(out: &mut impl Write, e: Entry) -> io::Result<()> {
+    number(out, e.content.start)?;
+    number(out, e.content.stored)
 }
 
-fn channel(e: Entry) {
-    number(e.layer);
-    number(e.code.bitmap);
-    number(e.code.channel);
-    content(e);
-    number(e.size.width);
-    number(e.size.height);
-    number(e.size.plane);
-    number(e.size.row);
+fn channel(out: &mut impl Write, e: Entry) -> io::Result<()> {
+    number(out, e.layer)?;
+    number(out, e.code.bitmap)?;
+    number(out, e.code.channel)?;
+    content(out, e)?;
+    number(out, e.size.width)?;
+    number(out, e.size.height)?;
+    number(out, e.size.plane)?;
+    number(out, e.size.row)
 }
 
-fn number(n: u32) {
-    printing::number(n as u64);
+fn number(out: &mut impl Write, n: u32) -> io::Result<()> {
+    printing::number(out, n as u64)
 }

@@ -7,15 +7,15 @@ use Rattle.laws.proofs.Part.{lent}
 use Rattle.view.specs.Shown.{Slice, PartOf}
 
 -- `&s[start..start + n]`
-abbrev pub taken : Slice → ℕ → ℕ → ℕ → Slice
-taken s start n name = record { ref_ptr = (s.ref_ptr.0, start + s.ref_ptr.1); ghost_name = name; now = take (start + n - start) (drop start s.now) }
+abbrev pub taken : Slice → ℕ → ℕ → Slice
+taken s start n = record { ref_ptr = (s.ref_ptr.0, start + s.ref_ptr.1); now = take (start + n - start) (drop start s.now) }
 
-pub part_of : (s : Slice) (start n name : ℕ) → PartOf s start n (taken s start n name)
-part_of s start n name = record { block = refl; place = omega arith; bytes = lent s.now start n }
+pub part_of : (s : Slice) (start n : ℕ) → PartOf s start n (taken s start n)
+part_of s start n = record { block = refl; place = omega arith; bytes = lent s.now start n }
 
 -- one place, and the same bytes
 abbrev pub Same : Slice → Slice → Type 0
-Same r r' = (r.ref_ptr ≡ r'.ptr) × (r.now ≡ r'.now)
+Same r r' = (r.ref_ptr ≡ r'.ref_ptr) × (r.now ≡ r'.now)
 
 pub part_one : (s : Slice) (start n : ℕ) (r r' : Slice) → PartOf s start n r → PartOf s start n r' → Same r r'
 part_one s start n r r' p q = ((λ i. ((p.block ∙ sym q.block) i, (p.place ∙ sym q.place) i)), p.bytes ∙ sym q.bytes)

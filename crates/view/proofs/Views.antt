@@ -82,7 +82,7 @@ name_at_lies s place = name_of_lies s (layer_here s place) (λ at e. omega (arit
 
 -- ### What is fixed of a slice that is shown
 
--- the number beside it, its place and its bytes; the name of its borrow is left open
+-- the number beside it, its place and its bytes
 abbrev pub seen : ℕ → Slice → ℕ × ((ℕ × ℕ) × List ℕ)
 seen number r = (number, (r.ref_ptr, r.now))
 
@@ -102,12 +102,12 @@ pub palette_inside : (s : List ℕ) (room ramp : ℕ) (p : Part) → p ≡ palet
 palette_inside s room ramp p is = subst⁻¹ (Lies (length s) ramp) is (palette_lies s room ramp)
 
 -- a part of the ramp, and of the input
-module _ (input ramp : Slice) (p : Part) (name : ℕ) where
-  pub shows_ramp : p.which ≡ 1 → Shows p input ramp (taken ramp p.start p.length name)
-  shows_ramp e = subst⁻¹ (λ (s : Slice). PartOf s p.start p.length (taken ramp p.start p.length name)) (pick_yes _ _ _ (eq-eqb _ _ e)) (part_of ramp p.start p.length name)
+module _ (input ramp : Slice) (p : Part) where
+  pub shows_ramp : p.which ≡ 1 → Shows p input ramp (taken ramp p.start p.length)
+  shows_ramp e = subst⁻¹ (λ (s : Slice). PartOf s p.start p.length (taken ramp p.start p.length)) (pick_yes _ _ _ (eq-eqb _ _ e)) (part_of ramp p.start p.length)
 
-  pub shows_input : (p.which ≡ 1 → ⊥) → Shows p input ramp (taken input p.start p.length name)
-  shows_input other = subst⁻¹ (λ (s : Slice). PartOf s p.start p.length (taken input p.start p.length name)) (pick_no _ _ _ (ne_eqb _ _ other)) (part_of input p.start p.length name)
+  pub shows_input : (p.which ≡ 1 → ⊥) → Shows p input ramp (taken input p.start p.length)
+  shows_input other = subst⁻¹ (λ (s : Slice). PartOf s p.start p.length (taken input p.start p.length)) (pick_no _ _ _ (ne_eqb _ _ other)) (part_of input p.start p.length)
 
 -- a ramp that is lent for as long as the input
 pub same_ramp :

@@ -23,8 +23,8 @@ Slice = Bor (List ℕ)
 
 -- r is n bytes of s from a place on
 pub record PartOf (s : Slice) (start n : ℕ) (r : Slice) : Type 0 where
-  pub block : r.ptr.0 ≡ s.ptr.0
-  pub place : r.ptr.1 ≡ s.ptr.1 + start
+  pub block : r.ref_ptr.0 ≡ s.ref_ptr.0
+  pub place : r.ref_ptr.1 ≡ s.ref_ptr.1 + start
   pub bytes : r.now ≡ part s.now start n
 
 -- a part of the input that is shown as these numbers say, beside its answer

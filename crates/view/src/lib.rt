@@ -1,6 +1,9 @@
 // What a caller may look at without a table: the palette, the facts of the image and of a layer, and a layer's name. A view walks the
 // input once and asks one question on the way, so it is as sure of what it shows as a listing is; whatever is refused there is refused
 // here by the same number. A caller that has a table asks at a place of it instead, and nothing is walked.
+
+#![tactic(auto)]
+
 mod at;
 mod facts;
 mod layer_name;

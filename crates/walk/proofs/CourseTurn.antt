@@ -14,7 +14,7 @@ use Rattle.walk.specs.Walk.{Leaf, Look, Listing, Rest, done, run, walk, enough}
 use Rattle.walk.specs.Room.{Walked}
 use Rattle.walk.specs.Owed.{MovesOn}
 use Rattle.walk.specs.Course.{Stand, stand, Course, leaf}
-use Rattle.walk.proofs.Continued.{◌⧺◌, and_then, walk_then}
+use Rattle.walk.proofs.Continued.{and_then, walk_then}
 use Rattle.walk.proofs.Course.{rest_from, from, course_run}
 use Rattle.walk.proofs.LoopArms.{count_fits, many_more, halts, goes_on}
 use Rattle.walk.proofs.LoopTurn.{Continues}

@@ -1,19 +1,32 @@
 // The worked value of document 01 that is run and not proved (crate worked_rows has the others): a plane of two pixels, of which the canvas
 // has the right one. A line is what was asked, the answer's number, and the whole canvas, which held EE before.
-use printing::text;
-use rect::Rect;
+#![tactic(auto)]
 
-fn place(asked: &[u8], width: u32, height: u32, r: Rect, plane: &[u8], row: u32) {
+use printing::{Held, text};
+use rect::Rect;
+use std::io;
+use std::io::Write;
+
+fn place(
+    out: &mut impl Write,
+    asked: &[u8],
+    width: u32,
+    height: u32,
+    r: Rect,
+    plane: &[u8],
+    row: u32,
+) -> io::Result<()> {
     let mut canvas = [238u8; 6];
     let a = canvas::place(width, height, &mut canvas, r, plane, row);
-    text(asked);
-    printing::number(a.number() as u64);
-    text(b" |");
-    printing::bytes(&canvas);
-    text(b"\n");
+    text(out, asked)?;
+    printing::number(out, a.number() as u64)?;
+    text(out, b" |")?;
+    printing::bytes(out, &canvas)?;
+    text(out, b"\n")
 }
 
-fn main() {
+fn main(rt: HostRuntime) -> io::Result<()> {
+    let mut out = Held::new(&rt);
     let r = Rect {
         left: -1,
         top: 1,
@@ -21,11 +34,13 @@ fn main() {
         bottom: 2,
     };
     place(
+        &mut out,
         b"3 by 2, 10 11 00 00 at (-1,1)-(1,2):",
         3,
         2,
         r,
         b"\x10\x11\x00\x00",
         4,
-    );
+    )?;
+    out.flush()
 }

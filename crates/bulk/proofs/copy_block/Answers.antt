@@ -1,10 +1,10 @@
 -- `bulk::copy_block` meets its contract. The loops' invariants: the part that was passed stands in the block, and then in dest.
 use mathlib.Core.Path.{◌≡◌, refl, sym, ap, ◌∙◌}
 use mathlib.Core.List.{List}
-use Prim.Native.Nat.{ℕ, ◌+◌, ◌-◌, ◌≤◌}
+use Prim.Native.Nat.{ℕ, ◌+◌}
 use native.Mathlib.Nat.{zero-add}
 use native.Mathlib.Omega.{arith}
-use lib.ListN.{length, set, get_or, length-set}
+use lib.ListN.{set, get_or, length-set}
 use Rattle.laws.specs.Lists.{over, part}
 use Rattle.laws.proofs.Over.{over_none}
 use Rattle.laws.proofs.Part.{over_next, part_set}

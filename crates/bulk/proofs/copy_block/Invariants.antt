@@ -1,13 +1,8 @@
 -- `bulk::copy_block` meets its contract. The loops' invariants: the part that was passed stands in the block, and then in dest.
-use mathlib.Core.Path.{◌≡◌, refl, sym, ap, ◌∙◌}
-use mathlib.Core.List.{List}
-use Prim.Native.Nat.{ℕ, ◌+◌, ◌-◌, ◌≤◌}
-use native.Mathlib.Nat.{zero-add}
-use native.Mathlib.Omega.{arith}
-use lib.ListN.{length, set, get_or, length-set}
+use mathlib.Core.Path.{◌≡◌}
+use Prim.Native.Nat.{◌-◌, ◌≤◌}
+use lib.ListN.{length}
 use Rattle.laws.specs.Lists.{over, part}
-use Rattle.laws.proofs.Over.{over_none}
-use Rattle.laws.proofs.Part.{over_next, part_set}
 use Rattle.bulk.proofs.copy_block.Given as goal
 
 abbrev pub invariant-loop-i : goal.invariant-loop-i

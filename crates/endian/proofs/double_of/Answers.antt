@@ -3,7 +3,6 @@ use mathlib.Core.Bool.{Bool, not}
 use lib.Dec.{T}
 use lib.Ieee.{of_bits, div}
 use Rattle.endian.proofs.Double.{nan_pattern, no_nan_pattern}
-use borrow.Author.Rules.{rules}
 use Rattle.endian.proofs.double_of.Goals as goal
 
 pub returns-then-bits-gt9218868437227405312 : goal.returns-then-bits-gt9218868437227405312

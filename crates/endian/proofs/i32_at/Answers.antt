@@ -1,7 +1,6 @@
 use mathlib.Core.Path.{◌∙◌, ap}
 use Rattle.endian.specs.Number.{signed}
 use Rattle.endian.proofs.Signed.{back}
-use borrow.Author.Rules.{rules}
 use Rattle.endian.proofs.i32_at.Goals as goal
 
 pub returns : goal.returns

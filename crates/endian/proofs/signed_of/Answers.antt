@@ -1,6 +1,5 @@
 use native.Mathlib.Omega.{arith}
 use Rattle.endian.proofs.Signed.{low, high, high_fits}
-use borrow.Author.Rules.{rules}
 use Rattle.endian.proofs.signed_of.Goals as goal
 
 pub returns-then-n-lt2147483648 : goal.returns-then-n-lt2147483648

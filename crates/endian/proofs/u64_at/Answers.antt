@@ -1,5 +1,4 @@
 use Rattle.endian.proofs.Width.{joined}
-use borrow.Author.Rules.{rules}
 use Rattle.endian.proofs.u64_at.Goals as goal
 
 pub returns : goal.returns

@@ -1,6 +1,5 @@
 use native.Mathlib.Omega.{arith}
 use Rattle.endian.proofs.Width.{one}
-use borrow.Author.Rules.{rules}
 use Rattle.endian.proofs.u8_at.Goals as goal
 
 pub returns : goal.returns

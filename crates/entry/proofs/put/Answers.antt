@@ -1,8 +1,5 @@
-use Prim.Native.Nat.{◌-◌}
 use native.Mathlib.Omega.{arith}
-use borrow.Author.Rules.{rules}
-use Rattle.laws.proofs.Stored.{Stored, stored_first, stored_length, stored_next, stored_last}
-use Rattle.entry.specs.Entry.{size}
+use Rattle.laws.proofs.Stored.{stored_first, stored_length, stored_next, stored_last}
 use Rattle.entry.proofs.put.Goals as goal
 
 pub loop-i-init : goal.loop-i-init

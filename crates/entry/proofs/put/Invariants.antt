@@ -1,7 +1,5 @@
 use Prim.Native.Nat.{◌-◌}
-use native.Mathlib.Omega.{arith}
-use borrow.Author.Rules.{rules}
-use Rattle.laws.proofs.Stored.{Stored, stored_first, stored_length, stored_next, stored_last}
+use Rattle.laws.proofs.Stored.{Stored}
 use Rattle.entry.specs.Entry.{size}
 use Rattle.entry.proofs.put.Given as goal
 

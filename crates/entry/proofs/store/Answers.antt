@@ -2,7 +2,6 @@ use mathlib.Core.Path.{sym, ◌∙◌}
 use borrow.Author.Tests.{lt-ltb, le-ltb}
 use Rattle.laws.proofs.Choice.{pick_yes, pick_no}
 use Rattle.entry.specs.Entry.{stored}
-use borrow.Author.Rules.{rules}
 use Rattle.entry.proofs.store.Goals as goal
 
 pub returns-then-index-table : goal.returns-then-index-table

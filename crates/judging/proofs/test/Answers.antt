@@ -1,6 +1,5 @@
 -- `judging::test` meets its contract: the front, and what is left.
 use mathlib.Core.Path.{sym, ◌∙◌}
-use borrow.Author.Rules.{rules}
 use Rattle.judging.proofs.test.Goals as goal
 
 pub returns : goal.returns

@@ -1,6 +1,5 @@
 use native.Mathlib.Nat.{mod-eq_of_lt, one-mul}
 use lib.Pow.{pow-lt}
-use borrow.Author.Rules.{rules}
 use Rattle.attributes.proofs.depth.colours.Goals as goal
 
 pub returns : goal.returns

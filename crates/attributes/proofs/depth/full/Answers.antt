@@ -4,7 +4,6 @@ use native.Mathlib.Omega.{arith}
 use lib.Dec.{eqb}
 use lib.Pow.{pow_mono}
 use borrow.Author.Tests.{ne_eqb}
-use borrow.Author.Rules.{rules}
 use Rattle.attributes.proofs.depth.full.Goals as goal
 
 pub returns-then-depth-lt32 : goal.returns-then-depth-lt32

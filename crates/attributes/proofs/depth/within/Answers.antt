@@ -4,7 +4,6 @@ use native.Mathlib.Omega.{arith}
 use lib.Dec.{leb}
 use lib.Pow.{pow_mono}
 use borrow.Author.Tests.{le-leb}
-use borrow.Author.Rules.{rules}
 use Rattle.attributes.proofs.depth.within.Goals as goal
 
 pub returns-then-depth-lt32 : goal.returns-then-depth-lt32

@@ -1,5 +1,4 @@
 use mathlib.Core.Path.{sym, ◌∙◌}
-use borrow.Author.Rules.{rules}
 use Rattle.laws.proofs.Choice.{pick_yes, pick_no}
 use Rattle.walk.proofs.Unit.{unit_soon, unit_there}
 use Rattle.block.specs.Step.{block_at}

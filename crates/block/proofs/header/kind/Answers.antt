@@ -1,5 +1,4 @@
 use mathlib.Core.Path.{sym, ◌∙◌}
-use borrow.Author.Rules.{rules}
 use Rattle.block.specs.Step.{kind_of}
 use Rattle.block.proofs.Passed.{by_image, by_palette, by_bank, by_layer, by_selection, by_alpha_bank, by_alpha, by_other}
 use Rattle.block.proofs.header.kind.Goals as goal

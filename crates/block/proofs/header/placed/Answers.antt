@@ -1,5 +1,4 @@
 use mathlib.Core.Path.{sym, ◌∙◌}
-use borrow.Author.Rules.{rules}
 use Rattle.block.specs.Step.{placed_of}
 use Rattle.block.proofs.header.placed.Goals as goal
 

@@ -1,5 +1,4 @@
 use mathlib.Core.Path.{sym, ap, ◌∙◌}
-use borrow.Author.Rules.{rules}
 use Rattle.laws.proofs.Choice.{pick_yes, pick_no}
 use Rattle.memory.specs.State.{is_full}
 use Rattle.block.specs.declared.looking.Edge.TheVariants.{Stop}

@@ -1,6 +1,5 @@
 use mathlib.Core.Path.{sym}
 use borrow.Author.Tests.{eq-eqb, ne_eqb}
-use borrow.Author.Rules.{rules}
 use Rattle.laws.proofs.Choice.{pick_yes, pick_no}
 use Rattle.block.proofs.looking.short.Goals as goal
 

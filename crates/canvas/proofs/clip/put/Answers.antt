@@ -1,7 +1,4 @@
-use mathlib.Core.Path.{◌≡◌, sym, ◌∙◌}
-use mathlib.Core.Bool.{false}
-use borrow.Author.Rules.{rules}
-use Rattle.rect.specs.Rect.{is_empty}
+use mathlib.Core.Path.{sym, ◌∙◌}
 use Rattle.canvas.proofs.Clipped.{Clipping, none_shared, canvas_spans, plane_spans, shared_proper, rows_room, rows_place}
 use Rattle.canvas.proofs.clip.put.Goals as goal
 

@@ -1,12 +1,6 @@
 -- Each return by the tests that led there.
-use mathlib.Core.Path.{◌≡◌, sym, ◌∙◌}
-use mathlib.Core.Bool.{true}
-use borrow.Author.Rules.{rules}
-use borrow.Author.Tests.{not-true, not-false}
-use lib.ListN.{length}
-use Rattle.rect.specs.Rect.{is_within}
+use mathlib.Core.Path.{sym, ◌∙◌}
 use Rattle.rect.proofs.Tests.{within_sized}
-use Rattle.canvas.specs.Placing.{is_canvas, is_plane_of}
 use Rattle.canvas.proofs.PlaceTests.{bad_canvas, bad_rect, bad_plane, all_well, fit}
 use Rattle.canvas.proofs.placer.place.Goals as goal
 

@@ -1,4 +1,3 @@
-use borrow.Author.Rules.{rules}
 use Rattle.laws.proofs.Part.{copied}
 use Rattle.canvas.proofs.rows.put_row.Goals as goal
 

@@ -1,11 +1,7 @@
 -- The loop's invariant: the first i rows are on the canvas, and it is as long as it was. The measure is the rows that are left.
-use mathlib.Core.Path.{◌≡◌, refl, sym, ap, ◌∙◌}
-use mathlib.Core.List.{List}
-use Prim.Native.Nat.{ℕ, ◌≤◌, ◌-◌, ◌+◌, ◌*◌}
-use native.Mathlib.Omega.{arith}
-use native.Mathlib.Numerals.{add-one}
+use mathlib.Core.Path.{◌≡◌}
+use Prim.Native.Nat.{◌≤◌, ◌-◌}
 use lib.ListN.{length}
-use Rattle.laws.specs.Lists.{over, part}
 use Rattle.canvas.specs.Blocks.{rows_of}
 use Rattle.canvas.proofs.rows.put_rows.Given as goal
 

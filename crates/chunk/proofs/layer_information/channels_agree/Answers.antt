@@ -1,7 +1,6 @@
 use mathlib.Core.Path.{ap}
 use Prim.Native.Nat.{ℕ, ◌+◌}
 use lib.Dec.{eqb}
-use borrow.Author.Rules.{rules}
 use Rattle.chunk.proofs.layer_information.channels_agree.Goals as goal
 
 pub returns : goal.returns

@@ -1,7 +1,6 @@
 use Prim.Native.Nat.{◌+◌}
 use native.Mathlib.Omega.{arith}
 use Rattle.endian.proofs.Turned.{big_one, big_joined}
-use borrow.Author.Rules.{rules}
 use Rattle.endian.proofs.big.u16_at.Goals as goal
 
 pub returns : goal.returns

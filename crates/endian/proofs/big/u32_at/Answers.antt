@@ -1,5 +1,4 @@
 use Rattle.endian.proofs.Turned.{big_joined}
-use borrow.Author.Rules.{rules}
 use Rattle.endian.proofs.big.u32_at.Goals as goal
 
 pub returns : goal.returns

@@ -1,8 +1,5 @@
 use mathlib.Core.Path.{sym}
-use Prim.Native.Nat.{◌-◌}
-use lib.ListN.{length}
-use borrow.Author.Rules.{rules}
-use Rattle.headers.proofs.Signature.{longer, Equal, equal_first, equal_next, equal_not, equal_last}
+use Rattle.headers.proofs.Signature.{longer, equal_first, equal_next, equal_not, equal_last}
 use Rattle.headers.proofs.file_header.same.Goals as goal
 
 pub returns-then-a-b : goal.returns-then-a-b

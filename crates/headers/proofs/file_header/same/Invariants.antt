@@ -1,8 +1,6 @@
-use mathlib.Core.Path.{sym}
 use Prim.Native.Nat.{◌-◌}
 use lib.ListN.{length}
-use borrow.Author.Rules.{rules}
-use Rattle.headers.proofs.Signature.{longer, Equal, equal_first, equal_next, equal_not, equal_last}
+use Rattle.headers.proofs.Signature.{Equal}
 use Rattle.headers.proofs.file_header.same.Given as goal
 
 abbrev pub invariant-loop-i : goal.invariant-loop-i

@@ -1,11 +1,8 @@
 -- `judging::front::past_full` meets its contract. The loop's invariant: what was left of the stream is judged as what is left of it now.
-use mathlib.Core.Path.{sym}
 use Prim.Native.Nat.{◌-◌, ◌≤◌}
-use native.Mathlib.Omega.{arith}
-use borrow.Author.Rules.{rules}
 use lib.ListN.{length, drop}
 use Rattle.packet.specs.Stream.{meaning_from}
-use Rattle.judging.proofs.Judged.{Judged, judged_here, judged_literals}
+use Rattle.judging.proofs.Judged.{Judged}
 use Rattle.judging.proofs.front.past_full.Given as goal
 
 abbrev pub invariant-loop-at : goal.invariant-loop-at

@@ -1,12 +1,8 @@
 -- `judging::front::test_front` meets its contract. The loop's invariant: the stream is judged as what is left of it. The measure is the
 -- bytes of the stream that are left.
 use mathlib.Core.Path.{◌≡◌, ◌∙◌}
-use Prim.Native.Nat.{◌-◌}
 use native.Mathlib.Omega.{arith}
-use borrow.Author.Rules.{rules}
-use lib.ListN.{length}
-use Rattle.packet.specs.Stream.{meaning}
-use Rattle.judging.proofs.Judged.{Judged, judged_first, judged_literals, judged_run}
+use Rattle.judging.proofs.Judged.{judged_first, judged_literals, judged_run}
 use Rattle.judging.proofs.front.test_front.Goals as goal
 
 pub loop-at-init : goal.loop-at-init

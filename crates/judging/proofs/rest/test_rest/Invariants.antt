@@ -1,11 +1,9 @@
 -- `judging::rest::test_rest` meets its contract. The loop's invariant: what was left of the stream is judged as what is left of it now. The
 -- measure is the bytes of the stream that are left.
 use Prim.Native.Nat.{◌-◌}
-use native.Mathlib.Omega.{arith}
-use borrow.Author.Rules.{rules}
 use lib.ListN.{length, drop}
 use Rattle.packet.specs.Stream.{meaning_from}
-use Rattle.judging.proofs.Judged.{Judged, judged_here, judged_literals, judged_run, stop_full, stop_128, stop_data, stop_literals, stop_byte, stop_run, stop_whole, stop_short}
+use Rattle.judging.proofs.Judged.{Judged}
 use Rattle.judging.proofs.rest.test_rest.Given as goal
 
 abbrev pub invariant-loop-at : goal.invariant-loop-at

@@ -1,4 +1,3 @@
-use borrow.Author.Rules.{rules}
 use Rattle.kinds.specs.Blocks.{bank_block}
 use Rattle.kinds.proofs.bank.bank_block.Goals as goal
 

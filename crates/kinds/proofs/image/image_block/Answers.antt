@@ -2,7 +2,6 @@ use mathlib.Core.Path.{sym}
 use Prim.Native.Nat.{◌+◌}
 use native.Mathlib.Omega.{arith}
 use borrow.Author.Tests.{eq-eqb, ne_eqb}
-use borrow.Author.Rules.{rules}
 use Rattle.laws.specs.Choice.{pick}
 use Rattle.headers.specs.BlockHeader.{block_header_size}
 use Rattle.attributes.specs.ImageAttributes.{image_size}

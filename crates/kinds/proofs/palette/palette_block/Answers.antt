@@ -1,6 +1,5 @@
 use mathlib.Core.Path.{sym}
 use borrow.Author.Tests.{eq-eqb, ne_eqb}
-use borrow.Author.Rules.{rules}
 use Rattle.laws.specs.Choice.{pick}
 use Rattle.walk.proofs.Unit.{unit_soon, unit_there}
 use Rattle.kinds.specs.Blocks.{permitted, palette_counted, palette_block}

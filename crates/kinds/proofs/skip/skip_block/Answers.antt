@@ -1,7 +1,6 @@
 use mathlib.Core.Path.{sym}
 use Prim.Native.Nat.{◌+◌}
 use native.Mathlib.Omega.{arith}
-use borrow.Author.Rules.{rules}
 use Rattle.headers.specs.BlockHeader.{block_header_size}
 use Rattle.walk.proofs.Unit.{unit_soon, unit_there}
 use Rattle.kinds.specs.Blocks.{skip_block}

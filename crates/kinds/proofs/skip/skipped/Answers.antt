@@ -1,5 +1,4 @@
 use borrow.Author.Tests.{eq-eqb, ne_eqb}
-use borrow.Author.Rules.{rules}
 use Rattle.laws.specs.Choice.{pick}
 use Rattle.kinds.specs.Blocks.{skipped_by}
 use Rattle.kinds.proofs.skip.skipped.Goals as goal

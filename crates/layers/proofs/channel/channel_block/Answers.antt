@@ -1,6 +1,5 @@
 use mathlib.Core.Path.{sym}
 use borrow.Author.Tests.{eq-eqb, ne_eqb}
-use borrow.Author.Rules.{rules}
 use Rattle.laws.specs.Choice.{pick}
 use Rattle.walk.proofs.Unit.{unit_soon, unit_there}
 use Rattle.layers.specs.Layers.{channel_block}

@@ -1,4 +1,3 @@
-use borrow.Author.Rules.{rules}
 use Rattle.layers.proofs.channel.channel_entry.Goals as goal
 
 pub returns : goal.returns

@@ -1,4 +1,3 @@
-use borrow.Author.Rules.{rules}
 use Rattle.laws.specs.Choice.{pick}
 use Rattle.kinds.specs.Blocks.{permitted}
 use Rattle.layers.specs.Layers.{channel_coded}

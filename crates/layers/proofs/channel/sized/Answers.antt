@@ -1,5 +1,4 @@
 use mathlib.Core.Path.{sym}
-use borrow.Author.Rules.{rules}
 use Rattle.walk.proofs.Unit.{unit_soon, unit_there}
 use Rattle.kinds.specs.Blocks.{permitted}
 use Rattle.layers.specs.Layers.{channel_sized}

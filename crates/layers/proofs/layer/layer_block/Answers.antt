@@ -1,5 +1,4 @@
 use mathlib.Core.Path.{sym, ◌∙◌}
-use borrow.Author.Rules.{rules}
 use Rattle.walk.proofs.Unit.{unit_soon, unit_there}
 use Rattle.chunk.proofs.Rules.{layer_rules}
 use Rattle.kinds.specs.Blocks.{permitted}

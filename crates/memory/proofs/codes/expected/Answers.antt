@@ -1,5 +1,4 @@
 use mathlib.Core.Path.{sym, ap, ◌∙◌}
-use borrow.Author.Rules.{rules}
 use Rattle.memory.specs.declared.parent.Parent.{Parent}
 use Rattle.memory.specs.Codes.{is_expected}
 use Rattle.memory.proofs.codes.expected.Goals as goal

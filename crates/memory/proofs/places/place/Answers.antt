@@ -1,12 +1,8 @@
-use mathlib.Core.Path.{◌≡◌, sym, ap₂, ◌∙◌}
+use mathlib.Core.Path.{sym, ap₂, ◌∙◌}
 use mathlib.Core.Bool.{◌&&◌}
 use borrow.Author.Tests.{eq-eqb, ne_eqb, le-leb, lt-leb}
-use borrow.Author.Rules.{rules}
-use Rattle.laws.specs.Choice.{pick}
 use Rattle.laws.proofs.Choice.{pick_yes, pick_no}
-use Rattle.memory.specs.declared.places.Placing.TheVariants.{Refuse, Skip}
-use Rattle.memory.specs.Parent.{is_main}
-use Rattle.memory.specs.Place.{grid_of, is_barred, is_unused, place_of}
+use Rattle.memory.specs.Place.{place_of}
 use Rattle.memory.proofs.places.place.Goals as goal
 
 pub returns-then-id-eq0 : goal.returns-then-id-eq0

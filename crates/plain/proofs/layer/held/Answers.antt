@@ -27,13 +27,11 @@ use Rattle.plain.proofs.LayerStep.{layer_steps, layer_ends}
 use Rattle.plain.proofs.Stored.{first_stored}
 use Rattle.plain.proofs.layer.held.Goals as goal
 
-
 pub with_layer-q-requires : goal.with_layer-q-requires
 with_layer-q-requires c =
     let a = c.args in
     let p = c.layer.ensures (c.if-not-layer.false) in
     (layer_rules a.st.image.depth c.decode-c.result (ap (layer_fault a.st.image.depth) c.decode-c.ensures ∙ p.good), p.more)
-
 
 pub channels-p-requires : goal.channels-p-requires
 channels-p-requires c =
@@ -47,7 +45,6 @@ channels-p-requires c =
       low = omega arith;
       fits = omega (arith, c.if-count-room.false, pre.fits);
     }
-
 
 pub returns : goal.returns
 returns c =
@@ -85,19 +82,14 @@ returns c =
       other = λ no. never (sym no);
     }
 
-
 pub returns-then-count-room : goal.returns-then-count-room
 returns-then-count-room c = record { plain = never; other = λ _. refl }
-
 
 pub returns-then-not-layer : goal.returns-then-not-layer
 returns-then-not-layer c = record { plain = never; other = λ _. refl }
 
-
 pub overflow_add-at : goal.overflow_add-at
 overflow_add-at c = omega (arith, c.requires.near, c.requires.order)
 
-
 pub overflow_add-count : goal.overflow_add-count
 overflow_add-count c = omega (arith, c.if-count-room.false, c.requires.fits, c.ranges.room)
-

@@ -1,6 +1,5 @@
 use Rattle.endian.proofs.Signed.{back}
 use Rattle.rect.specs.Rect.{rect_at}
-use borrow.Author.Rules.{rules}
 use Rattle.rect.proofs.Rect.decode.Goals as goal
 
 pub returns : goal.returns

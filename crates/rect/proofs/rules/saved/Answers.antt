@@ -1,4 +1,3 @@
-use borrow.Author.Rules.{rules}
 use Rattle.rect.proofs.rules.saved.Goals as goal
 
 pub returns : goal.returns

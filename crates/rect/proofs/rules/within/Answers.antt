@@ -1,6 +1,5 @@
 use mathlib.Core.Path.{sym, ◌∙◌}
 use Rattle.rect.proofs.Tests.{proper_yes}
-use borrow.Author.Rules.{rules}
 use Rattle.rect.proofs.rules.within.Goals as goal
 
 pub width-requires : goal.width-requires

@@ -1,10 +1,8 @@
 -- `saved::reader::get_numbers` meets its contract. The loop's invariant: i numbers are stored.
 use mathlib.Core.Path.{◌∙◌}
-use Prim.Native.Nat.{◌-◌}
 use native.Mathlib.Omega.{arith}
-use borrow.Author.Rules.{rules}
 use Rattle.laws.proofs.Over.{over_front}
-use Rattle.laws.proofs.Stored.{Stored, stored_first, stored_length, stored_last}
+use Rattle.laws.proofs.Stored.{stored_first, stored_length, stored_last}
 use Rattle.saved.specs.Saved.{numbers_at}
 use Rattle.saved.proofs.Form.{numbers_at_length, get_next}
 use Rattle.saved.proofs.reader.get_numbers.Goals as goal

@@ -1,11 +1,7 @@
 -- `saved::sides::version_in` meets its contract. The loop's invariant: `large` tells of the first i entries.
-use mathlib.Core.Path.{◌≡◌, sym, ◌∙◌}
+use mathlib.Core.Path.{◌≡◌}
 use Prim.Native.Nat.{◌-◌, ◌≤◌}
-use native.Mathlib.Omega.{arith}
-use borrow.Author.Rules.{rules}
 use Rattle.saved.specs.Saved.{any_large, entries_of}
-use Rattle.saved.proofs.Form.{entries_count, number_of}
-use Rattle.saved.proofs.Versions.{any_none, any_next, any_all}
 use Rattle.saved.proofs.sides.version_in.Given as goal
 
 abbrev pub invariant-loop-i : goal.invariant-loop-i

@@ -1,8 +1,6 @@
 -- `saved::writer::put_numbers` meets its contract. The loop's invariant: i numbers are written.
 use Prim.Native.Nat.{◌-◌}
-use native.Mathlib.Omega.{arith}
-use borrow.Author.Rules.{rules}
-use Rattle.saved.proofs.Form.{Put, put_first, put_length, put_next, put_last}
+use Rattle.saved.proofs.Form.{Put}
 use Rattle.saved.proofs.writer.put_numbers.Given as goal
 
 abbrev pub invariant-loop-i : goal.invariant-loop-i

@@ -1,6 +1,5 @@
 -- `saved::writer::write_table` meets its contract: too long, short of room, and written.
 use mathlib.Core.Path.{sym, ap, ◌∙◌}
-use borrow.Author.Rules.{rules}
 use Rattle.saved.specs.declared.writer.WriteAnswer.TheVariants.{Whole}
 use Rattle.saved.specs.Saved.{write_result}
 use Rattle.saved.proofs.Tests.{write_over_long, write_no_room, write_whole}

@@ -1,7 +1,6 @@
 use mathlib.Core.Path.{◌∙◌, ap}
 use Rattle.laws.proofs.Part.{lent}
 use Rattle.attributes.specs.ImageAttributes.{image_of}
-use borrow.Author.Rules.{rules}
 use Rattle.attributes.proofs.image_attributes.ImageChunk.decode.Goals as goal
 
 pub returns : goal.returns

@@ -1,6 +1,5 @@
 use Rattle.endian.proofs.Signed.{back}
 use Rattle.attributes.specs.ImageAttributes.{image_of}
-use borrow.Author.Rules.{rules}
 use Rattle.attributes.proofs.image_attributes.ImageChunk.of.Goals as goal
 
 pub returns : goal.returns

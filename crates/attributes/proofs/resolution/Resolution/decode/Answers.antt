@@ -1,5 +1,4 @@
 use Rattle.attributes.specs.Resolution.{resolution_at}
-use borrow.Author.Rules.{rules}
 use Rattle.attributes.proofs.resolution.Resolution.decode.Goals as goal
 
 pub returns : goal.returns

@@ -4,7 +4,6 @@ use Prim.Native.Nat.{ℕ}
 use Rattle.laws.proofs.Part.{lent}
 use Rattle.endian.specs.Number.{number_at}
 use Rattle.chunk.specs.AlphaBankInformation.{alpha_bank_of}
-use borrow.Author.Rules.{rules}
 use Rattle.chunk.proofs.alpha_bank_information.AlphaBankChunk.decode.Goals as goal
 
 pub returns : goal.returns

@@ -1,7 +1,6 @@
 use mathlib.Core.Path.{◌∙◌, ap}
 use Rattle.laws.proofs.Part.{lent}
 use Rattle.chunk.specs.AlphaInformation.{alpha_of}
-use borrow.Author.Rules.{rules}
 use Rattle.chunk.proofs.alpha_information.AlphaChunk.decode.Goals as goal
 
 pub returns : goal.returns

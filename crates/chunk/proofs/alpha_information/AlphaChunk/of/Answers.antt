@@ -1,5 +1,4 @@
 use Rattle.chunk.specs.AlphaInformation.{alpha_of}
-use borrow.Author.Rules.{rules}
 use Rattle.chunk.proofs.alpha_information.AlphaChunk.of.Goals as goal
 
 pub returns : goal.returns

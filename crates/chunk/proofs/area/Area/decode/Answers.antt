@@ -1,5 +1,4 @@
 use Rattle.chunk.specs.Area.{area_at}
-use borrow.Author.Rules.{rules}
 use Rattle.chunk.proofs.area.Area.decode.Goals as goal
 
 pub returns : goal.returns

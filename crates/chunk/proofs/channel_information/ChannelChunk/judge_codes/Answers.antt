@@ -1,7 +1,6 @@
 use mathlib.Core.Path.{refl, ◌∙◌}
 use Rattle.chunk.specs.ChannelInformation.{codes_fault}
 use Rattle.attributes.proofs.Earliest.{next}
-use borrow.Author.Rules.{rules}
 use Rattle.chunk.proofs.channel_information.ChannelChunk.judge_codes.Goals as goal
 
 pub returns : goal.returns

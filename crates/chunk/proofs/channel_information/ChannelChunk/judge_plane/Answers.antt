@@ -1,6 +1,5 @@
 use mathlib.Core.Path.{ap, ◌∙◌}
 use mathlib.Core.Bool.{Bool}
-use borrow.Author.Rules.{rules}
 use Rattle.attributes.specs.declared.fault.Fault.TheVariants.{None}
 use Rattle.attributes.specs.Fault.{unless_of}
 use Rattle.chunk.specs.ChannelInformation.{plane_fault}

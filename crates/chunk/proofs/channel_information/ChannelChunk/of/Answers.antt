@@ -1,5 +1,4 @@
 use Rattle.chunk.specs.ChannelInformation.{channel_of}
-use borrow.Author.Rules.{rules}
 use Rattle.chunk.proofs.channel_information.ChannelChunk.of.Goals as goal
 
 pub returns : goal.returns

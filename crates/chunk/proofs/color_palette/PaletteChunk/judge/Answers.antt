@@ -3,7 +3,6 @@ use mathlib.Core.Bool.{◌&&◌}
 use lib.Dec.{leb}
 use Rattle.chunk.specs.ColorPalette.{palette_fault}
 use Rattle.attributes.proofs.Earliest.{next}
-use borrow.Author.Rules.{rules}
 use Rattle.chunk.proofs.color_palette.PaletteChunk.judge.Goals as goal
 
 pub returns : goal.returns

@@ -1,5 +1,4 @@
 use Rattle.chunk.specs.ColorPalette.{palette_of}
-use borrow.Author.Rules.{rules}
 use Rattle.chunk.proofs.color_palette.PaletteChunk.of.Goals as goal
 
 pub returns : goal.returns

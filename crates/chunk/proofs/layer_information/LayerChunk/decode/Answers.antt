@@ -1,7 +1,6 @@
 use mathlib.Core.Path.{◌∙◌, ap}
 use Rattle.laws.proofs.Part.{lent}
 use Rattle.chunk.specs.LayerInformation.{layer_of}
-use borrow.Author.Rules.{rules}
 use Rattle.chunk.proofs.layer_information.LayerChunk.decode.Goals as goal
 
 pub returns : goal.returns

@@ -1,7 +1,6 @@
 use mathlib.Core.Path.{refl, ◌∙◌}
 use Rattle.chunk.specs.LayerInformation.{layer_fault}
 use Rattle.attributes.proofs.Earliest.{next}
-use borrow.Author.Rules.{rules}
 use Rattle.chunk.proofs.layer_information.LayerChunk.judge.Goals as goal
 
 pub returns : goal.returns

@@ -1,6 +1,5 @@
 use native.Mathlib.Omega.{arith}
 use Rattle.chunk.specs.LayerInformation.{layer_of}
-use borrow.Author.Rules.{rules}
 use Rattle.chunk.proofs.layer_information.LayerChunk.of.Goals as goal
 
 pub u16_at-requires-2 : goal.u16_at-requires-2

@@ -1,5 +1,4 @@
 use Rattle.chunk.specs.Mask.{mask_at}
-use borrow.Author.Rules.{rules}
 use Rattle.chunk.proofs.mask.Mask.decode.Goals as goal
 
 pub returns : goal.returns

@@ -1,7 +1,6 @@
 use mathlib.Core.Path.{refl, ◌∙◌}
 use Rattle.chunk.specs.Mask.{mask_fault}
 use Rattle.attributes.proofs.Earliest.{next}
-use borrow.Author.Rules.{rules}
 use Rattle.chunk.proofs.mask.Mask.judge.Goals as goal
 
 pub returns : goal.returns

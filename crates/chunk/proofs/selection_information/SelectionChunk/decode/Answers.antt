@@ -4,7 +4,6 @@ use Prim.Native.Nat.{ℕ}
 use Rattle.laws.proofs.Part.{lent}
 use Rattle.chunk.specs.SelectionInformation.{selection_of}
 use Rattle.chunk.specs.Mask.{mask_at}
-use borrow.Author.Rules.{rules}
 use Rattle.chunk.proofs.selection_information.SelectionChunk.decode.Goals as goal
 
 pub returns : goal.returns

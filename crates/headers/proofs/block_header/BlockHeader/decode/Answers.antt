@@ -1,7 +1,6 @@
 use mathlib.Core.Path.{◌∙◌, ap}
 use Rattle.laws.proofs.Part.{lent}
 use Rattle.headers.specs.BlockHeader.{block_header_of}
-use borrow.Author.Rules.{rules}
 use Rattle.headers.proofs.block_header.BlockHeader.decode.Goals as goal
 
 pub returns : goal.returns

@@ -1,5 +1,4 @@
 use Rattle.headers.specs.BlockHeader.{block_header_of}
-use borrow.Author.Rules.{rules}
 use Rattle.headers.proofs.block_header.BlockHeader.of.Goals as goal
 
 pub returns : goal.returns

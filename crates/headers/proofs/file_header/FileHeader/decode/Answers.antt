@@ -1,7 +1,6 @@
 use mathlib.Core.Path.{◌∙◌, ap}
 use Rattle.laws.proofs.Part.{lent}
 use Rattle.headers.specs.FileHeader.{file_header_of}
-use borrow.Author.Rules.{rules}
 use Rattle.headers.proofs.file_header.FileHeader.decode.Goals as goal
 
 pub returns : goal.returns

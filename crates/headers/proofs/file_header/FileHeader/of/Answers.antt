@@ -1,5 +1,4 @@
 use Rattle.headers.specs.FileHeader.{file_header_of}
-use borrow.Author.Rules.{rules}
 use Rattle.headers.proofs.file_header.FileHeader.of.Goals as goal
 
 pub returns : goal.returns

@@ -1,4 +1,3 @@
-use borrow.Author.Rules.{rules}
 use Rattle.memory.specs.Codes.{no_codes}
 use Rattle.memory.proofs.state.Current.by_mask.Goals as goal
 

@@ -1,5 +1,4 @@
 use Prim.Native.Nat.{◌-◌}
-use borrow.Author.Rules.{rules}
 use Rattle.memory.proofs.state.Current.with_channel.Goals as goal
 
 pub returns : goal.returns

@@ -1,6 +1,5 @@
 use mathlib.Core.Path.{sym, ap, ◌∙◌}
 use mathlib.Core.Bool.{Bool, ◌&&◌}
-use borrow.Author.Rules.{rules}
 use lib.Dec.{eqb}
 use Rattle.memory.specs.State.{is_full}
 use Rattle.memory.proofs.state.State.full.Goals as goal

@@ -1,4 +1,3 @@
-use borrow.Author.Rules.{rules}
 use Rattle.memory.proofs.state.State.with_image.Goals as goal
 
 pub returns : goal.returns

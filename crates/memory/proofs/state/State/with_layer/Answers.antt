@@ -1,5 +1,4 @@
 use mathlib.Core.Path.{ap, ◌∙◌}
-use borrow.Author.Rules.{rules}
 use Rattle.memory.specs.declared.state.Current.{Current}
 use Rattle.memory.specs.State.{with_member}
 use Rattle.memory.proofs.state.State.with_layer.Goals as goal

@@ -1,4 +1,3 @@
-use borrow.Author.Rules.{rules}
 use Rattle.memory.specs.declared.parent.Open.TheVariants.{Mask}
 use Rattle.memory.specs.State.{met_selection}
 use Rattle.memory.proofs.state.State.with_selection.Goals as goal

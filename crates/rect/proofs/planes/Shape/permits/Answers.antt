@@ -1,6 +1,5 @@
 use mathlib.Core.Path.{sym, ap, ap₂, ◌∙◌}
 use mathlib.Core.Bool.{Bool, ◌&&◌, ◌||◌}
-use borrow.Author.Rules.{rules}
 use Rattle.rect.specs.Rows.{makes}
 use Rattle.rect.proofs.Forms.{plane_is}
 use Rattle.rect.proofs.planes.Shape.permits.Goals as goal

@@ -1,6 +1,5 @@
 use mathlib.Core.Path.{◌≡◌, sym, ap, ◌∙◌}
 use mathlib.Core.Bool.{Bool, ◌&&◌}
-use borrow.Author.Rules.{rules}
 use Rattle.rect.specs.Rows.{row_of, makes}
 use Rattle.rect.proofs.Forms.{padded_row, short_row, no_row}
 use Rattle.rect.proofs.planes.Shape.row.Goals as goal

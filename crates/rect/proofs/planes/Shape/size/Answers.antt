@@ -1,4 +1,3 @@
-use borrow.Author.Rules.{rules}
 use Rattle.rect.specs.Rows.{size_of}
 use Rattle.rect.proofs.planes.Shape.size.Goals as goal
 

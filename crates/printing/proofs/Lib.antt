@@ -1,2 +1,0 @@
--- Laws of signed numbers as they are printed.
-pub mod Below

@@ -1,0 +1,6 @@
+use borrow.Author.Rules.{rules}
+use Rattle.psp.proofs.Outcomes.{told_as}
+use Rattle.psp.proofs.filed.psp_write_table.Goals as goal
+
+pub returns : goal.returns
+returns c = told_as c.told.ensures c.write_table-answer.ensures

@@ -1,0 +1,6 @@
+use borrow.Author.Rules.{rules}
+use Rattle.psp.proofs.Outcomes.{told_as}
+use Rattle.psp.proofs.planes.psp_pack.Goals as goal
+
+pub returns : goal.returns
+returns c = told_as c.told.ensures c.pack-answer.ensures

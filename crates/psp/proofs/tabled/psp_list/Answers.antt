@@ -1,0 +1,6 @@
+use borrow.Author.Rules.{rules}
+use Rattle.psp.proofs.Outcomes.{told_as}
+use Rattle.psp.proofs.tabled.psp_list.Goals as goal
+
+pub returns : goal.returns
+returns c = told_as c.told.ensures c.list-outcome.ensures
