@@ -1,5 +1,5 @@
 -- `saved::reader::read_table` meets its contract: each refusal by its test, and the entries read.
-use mathlib.Core.Path.{◌≡◌, sym, ap, ◌∙◌}
+use mathlib.Core.Path.{◌≡◌, refl, sym, ap, ◌∙◌}
 use mathlib.Core.List.{List, ◌++◌}
 use Prim.Native.Nat.{ℕ, ◌+◌, ◌-◌, ◌*◌, ◌≤◌}
 use native.Mathlib.Omega.{arith}
@@ -56,9 +56,13 @@ returns-then-version-right c =
     sym (read_other_sides f _ c.if-file-lt-HEAD.false (sym said ∙ c.if-length-file.false) c.if-version.false (count_is f _ _ said counted c.if-length-count.false)
     (λ e. c.if-version-right.true (e ∙ sym (version_found f _ _ counted c.version_in-right.ensures))))
 
+-- what the tests have found is found by tactics here, so that a test that stands elsewhere is refused for what it then leaves unknown
 pub returns-then-table-count : goal.returns-then-table-count
 returns-then-table-count c =
-    let saved = is_saved c.args.file.now _ _ _ c.if-file-lt-HEAD.false c.u32_at-length.ensures.value c.if-length-file.false c.u32_at-count.ensures.value c.if-length-count.false c.version_in-right.ensures c.if-version-right.false in
+    let f = c.args.file.now in
+    let measured : c.u32_at-length.result ≡ 5 + 56 * c.u32_at-count.result = omega arith in
+    let agreed : version_said f ≡ version_of (entries_of f c.u32_at-count.result) = cc in
+    let saved = is_saved f _ _ _ c.if-file-lt-HEAD.false c.u32_at-length.ensures.value c.if-length-file.false c.u32_at-count.ensures.value measured refl agreed in
     sym (read_no_room _ _ saved (omega (arith, c.u32_at-count.ensures.value, c.if-table-count.true)))
 
 pub get_numbers-requires : goal.get_numbers-requires
