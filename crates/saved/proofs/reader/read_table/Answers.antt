@@ -46,7 +46,7 @@ returns-then-length-count c =
     (λ e. c.if-length-count.true (said ∙ e ∙ ap (λ (n : ℕ). 5 + 56 * n) (sym c.u32_at-count.ensures.value))))
 
 pub version_in-right-requires : goal.version_in-right-requires
-version_in-right-requires c = omega (arith, c.if-file-lt-HEAD.false, c.if-length-file.false, c.if-length-count.false)
+version_in-right-requires c = omega arith
 
 pub returns-then-version-right : goal.returns-then-version-right
 returns-then-version-right c =
@@ -58,7 +58,9 @@ returns-then-version-right c =
 
 pub returns-then-table-count : goal.returns-then-table-count
 returns-then-table-count c =
-    let saved = is_saved c.args.file.now _ _ _ c.if-file-lt-HEAD.false c.u32_at-length.ensures.value c.if-length-file.false c.u32_at-count.ensures.value c.if-length-count.false c.version_in-right.ensures c.if-version-right.false in
+    let whole : c.u32_at-length.result ≡ 5 + 56 * c.u32_at-count.result = omega arith in
+    let same : version_said c.args.file.now ≡ c.version_in-right.result = omega arith in
+    let saved = is_saved c.args.file.now _ _ _ c.if-file-lt-HEAD.false c.u32_at-length.ensures.value c.if-length-file.false c.u32_at-count.ensures.value whole c.version_in-right.ensures same in
     sym (read_no_room _ _ saved (omega (arith, c.u32_at-count.ensures.value, c.if-table-count.true)))
 
 pub get_numbers-requires : goal.get_numbers-requires
