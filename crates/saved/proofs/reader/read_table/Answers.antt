@@ -46,7 +46,7 @@ returns-then-length-count c =
     (λ e. c.if-length-count.true (said ∙ e ∙ ap (λ (n : ℕ). 5 + 56 * n) (sym c.u32_at-count.ensures.value))))
 
 pub version_in-right-requires : goal.version_in-right-requires
-version_in-right-requires c = omega (arith, c.if-file-lt-HEAD.false, c.if-length-file.false, c.if-length-count.false)
+version_in-right-requires c = omega arith
 
 pub returns-then-version-right : goal.returns-then-version-right
 returns-then-version-right c =
