@@ -1,8 +1,4 @@
--- Laws of what the exported functions leave, of a slice that is lent again, of clipping in any order, of saved tables, and of an entry asked
--- for.
+-- Laws of what the entry points leave: what is told of an answer, and a listing in a table and in records.
+pub mod Told
 pub mod Records
 pub mod Listed
-pub mod Outcomes
-pub mod Clipping
-pub mod Kept
-pub mod Checked

@@ -1,4 +1,4 @@
-use Rattle.psp.proofs.Outcomes.{told_as}
+use Rattle.psp.proofs.Told.{told_as}
 use Rattle.psp.proofs.filed.psp_write_table.Goals as goal
 
 pub returns : goal.returns

@@ -1,4 +1,4 @@
-use Rattle.psp.proofs.Outcomes.{told_as}
+use Rattle.psp.proofs.Told.{told_as}
 use Rattle.psp.proofs.tabled.psp_list.Goals as goal
 
 pub returns : goal.returns

@@ -12,35 +12,31 @@ use Rattle.laws.specs.Results.{Result}
 use Rattle.laws.specs.Outcomes.{OneResult, OneOutcome}
 use Rattle.laws.proofs.OneOutcome.{one, result_one}
 use Rattle.entry.specs.declared.Entry.{Entry}
-use Rattle.psp.proofs.asked.psp_entry_at.Reads as entry_at
-use Rattle.psp.proofs.at.psp_alpha_at.Reads as alpha-at
-use Rattle.psp.proofs.at.psp_alpha_name_at.Reads as alpha-name-at
-use Rattle.psp.proofs.at.psp_layer_at.Reads as layer-at
-use Rattle.psp.proofs.at.psp_name_at.Reads as name-at
-use Rattle.psp.proofs.at.psp_selection_at.Reads as selection-at
-use Rattle.psp.proofs.filed.psp_read_table.Reads as read_table
-use Rattle.psp.proofs.filed.psp_write_table.Reads as write-table
-use Rattle.psp.proofs.placing.psp_intersect.Reads as intersect
-use Rattle.psp.proofs.placing.psp_place.Reads as place
-use Rattle.psp.proofs.planes.psp_pack.Reads as pack
-use Rattle.psp.proofs.planes.psp_read_plane.Reads as read-plane
-use Rattle.psp.proofs.planes.psp_unpack.Reads as unpack
-use Rattle.psp.specs.contracts.recorded.psp_list_records as list-records
-use Rattle.psp.proofs.shown.psp_alpha_name.Reads as alpha-name
-use Rattle.psp.proofs.shown.psp_dots_per_centimetre.Reads as dots
-use Rattle.psp.proofs.shown.psp_name.Reads as name
-use Rattle.psp.proofs.shown.psp_palette.Reads as palette
-use Rattle.psp.proofs.shown.psp_read_alpha_facts.Reads as alpha-facts
-use Rattle.psp.proofs.shown.psp_read_image_facts.Reads as image-facts
-use Rattle.psp.proofs.shown.psp_read_layer_facts.Reads as layer-facts
-use Rattle.psp.proofs.shown.psp_read_selection_facts.Reads as selection-facts
-use Rattle.psp.proofs.tabled.psp_count.Reads as count
-use Rattle.psp.proofs.tabled.psp_list.Reads as list
-use Rattle.psp.proofs.version.psp_version.Reads as version
-
--- what is told of an answer, beside what the function leaves in a buffer
-pub told_as : {T : Type 0} {right : Result T} {x y : T} {dest : List ℕ} → x ≡ y → record { told = y; dest = dest } ≡ right → record { told = x; dest = dest } ≡ right
-told_as {T} {dest} e p = ap (λ (n : T). record { told = n; dest = dest }) e ∙ p
+use Rattle.psp_c.proofs.asked.psp_entry_at.Reads as entry_at
+use Rattle.psp_c.proofs.at.psp_alpha_at.Reads as alpha-at
+use Rattle.psp_c.proofs.at.psp_alpha_name_at.Reads as alpha-name-at
+use Rattle.psp_c.proofs.at.psp_layer_at.Reads as layer-at
+use Rattle.psp_c.proofs.at.psp_name_at.Reads as name-at
+use Rattle.psp_c.proofs.at.psp_selection_at.Reads as selection-at
+use Rattle.psp_c.proofs.filed.psp_read_table.Reads as read_table
+use Rattle.psp_c.proofs.filed.psp_write_table.Reads as write-table
+use Rattle.psp_c.proofs.placing.psp_intersect.Reads as intersect
+use Rattle.psp_c.proofs.placing.psp_place.Reads as place
+use Rattle.psp_c.proofs.planes.psp_pack.Reads as pack
+use Rattle.psp_c.proofs.planes.psp_read_plane.Reads as read-plane
+use Rattle.psp_c.proofs.planes.psp_unpack.Reads as unpack
+use Rattle.psp_c.specs.contracts.recorded.psp_list_records as list-records
+use Rattle.psp_c.proofs.shown.psp_alpha_name.Reads as alpha-name
+use Rattle.psp_c.proofs.shown.psp_dots_per_centimetre.Reads as dots
+use Rattle.psp_c.proofs.shown.psp_name.Reads as name
+use Rattle.psp_c.proofs.shown.psp_palette.Reads as palette
+use Rattle.psp_c.proofs.shown.psp_read_alpha_facts.Reads as alpha-facts
+use Rattle.psp_c.proofs.shown.psp_read_image_facts.Reads as image-facts
+use Rattle.psp_c.proofs.shown.psp_read_layer_facts.Reads as layer-facts
+use Rattle.psp_c.proofs.shown.psp_read_selection_facts.Reads as selection-facts
+use Rattle.psp_c.proofs.tabled.psp_count.Reads as count
+use Rattle.psp_c.proofs.tabled.psp_list.Reads as list
+use Rattle.psp_c.proofs.version.psp_version.Reads as version
 
 -- ### A buffer beside what is told: its answer is what the paper tells
 

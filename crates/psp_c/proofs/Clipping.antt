@@ -7,8 +7,8 @@ use Rattle.rect.specs.Clipping.{Clips}
 use Rattle.rect.proofs.Clips.{clips, two}
 use Rattle.canvas.specs.Touching.{placed_by, Places}
 use Rattle.canvas.proofs.Called.{given, places}
-use Rattle.psp.proofs.placing.psp_intersect.Reads as intersect
-use Rattle.psp.proofs.placing.psp_place.Reads as place
+use Rattle.psp_c.proofs.placing.psp_intersect.Reads as intersect
+use Rattle.psp_c.proofs.placing.psp_place.Reads as place
 
 pub psp_intersect_clips : Clips (λ a b p. Call two (λ l y e. y) intersect.Learnt (a, b) p)
 psp_intersect_clips = clips (λ a b p. call_is (λ g. shared_of g.0 g.1) (λ l a y e h. h))

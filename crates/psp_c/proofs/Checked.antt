@@ -15,8 +15,8 @@ use Rattle.pencil.proofs.Agree.{agrees, agrees_with}
 use Rattle.asking.specs.declared.numbers.Asked.{Asked}
 use Rattle.asking.specs.Told.{told}
 use Rattle.psp.specs.Checked.{Checks}
-use Rattle.psp.proofs.asked.psp_entry_at.Reads as entry_at
-use Rattle.psp.proofs.tabled.psp_list.Reads as list
+use Rattle.psp_c.proofs.asked.psp_entry_at.Reads as entry_at
+use Rattle.psp_c.proofs.tabled.psp_list.Reads as list
 
 -- what their contracts admit
 abbrev Listing : List ℕ → List ℕ → Result Told → Type 0

@@ -13,8 +13,8 @@ use Rattle.saved.specs.Kept.{Keeps}
 use Rattle.saved.specs.Earlier.{Succeeds}
 use Rattle.saved.proofs.Keeps.{keeps}
 use Rattle.saved.proofs.Succeeds.{succeeds}
-use Rattle.psp.proofs.filed.psp_write_table.Reads as write
-use Rattle.psp.proofs.filed.psp_read_table.Reads as read
+use Rattle.psp_c.proofs.filed.psp_write_table.Reads as write
+use Rattle.psp_c.proofs.filed.psp_read_table.Reads as read
 
 -- what their contracts admit
 abbrev Writing : List ℕ → List ℕ → Result Saved → Type 0
