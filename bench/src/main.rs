@@ -22,14 +22,11 @@ mod reading;
 mod sides;
 mod walker;
 
-// The library's boundary on Arm is wrapped for listings, reading and packing only.
+// On Arm listings, reading and packing are timed, and no more.
 #[cfg(target_arch = "x86_64")]
 mod placing;
 #[cfg(target_arch = "x86_64")]
 mod views;
-
-#[cfg(target_arch = "aarch64")]
-mod arm;
 
 #[allow(dead_code, unused_imports)]
 #[path = "../../host/src/psp/lib.rs"]

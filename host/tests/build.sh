@@ -1,10 +1,10 @@
 # What the library is built with: host/build keeps its output for itself, and cargo builds the Rust crate; sourced by host/check.
 # shellcheck shell=sh disable=SC2154 # variables of host/check
 
-# A kit that only says what it proved, and an archive that looks older than its sources.
+# A kit that only says what it proved and leaves the archive that is there, and an archive that looks older than its sources.
 archive=$root/target/staticlib/libpsp.a
 mkdir kit
-printf '#!/bin/sh\necho "fn psp::list: proved"\n' > kit/rt
+printf '#!/bin/sh\nmkdir -p out\ncp "%s" out/libpsp_c.a\necho "fn psp::list: proved"\n' "$archive" > kit/rt
 chmod +x kit/rt
 touch -r "$archive" built
 touch -t 197001020000 "$archive"
@@ -28,7 +28,7 @@ if [ "$(uname -m)" = x86_64 ] && command -v cargo > /dev/null; then
   cp "$root/examples/placed_plane.rs" bare/examples/
   cargo_test bare/host/src/psp/Cargo.toml
   same "cargo without the archive: status" 101 $?
-  same "cargo without the archive: sentence" 1 "$(grep -c 'is missing: run host/build or rt staticlib psp' said)"
+  same "cargo without the archive: sentence" 1 "$(grep -c 'is missing: run host/build or host/archive' said)"
 else
   echo "host/check: cargo is missing or builds for another machine, so it is not tried" >&2
 fi

@@ -72,9 +72,9 @@ same "./list, without the kit: said" \
   "program: psplist is proved, built and run by the Rattle kit, whose command is rt, and that is not installed: see README.md" "$(cat said)"
 
 # A program that was never built, and a kit that does not prove it.
-mkdir unproved refusing
+mkdir -p unproved/crates/psplist refusing
 cp "$root/list" "$root/program" unproved/
-printf "#!/bin/sh\necho not proved\nexit 1\n" > refusing/rt
+printf "#!/bin/sh\necho not proved >&2\nexit 1\n" > refusing/rt
 chmod +x refusing/rt
 PATH=$PWD/refusing:$PATH unproved/list mug.psp > printed 2> said
 same "./list, not proved: status" 2 $?

@@ -1,4 +1,4 @@
-//! Links the proved archive, which host/build or `rt staticlib psp` has written before.
+//! Links the proved archive, which host/build or host/archive has written before.
 
 use std::env;
 use std::path::Path;
@@ -16,7 +16,7 @@ fn main() {
     let folder = Path::new(&variable("CARGO_MANIFEST_DIR")).join("../../../target/staticlib");
     let archive = folder.join("libpsp.a");
     if !archive.is_file() {
-        let missing = "is missing: run host/build or rt staticlib psp";
+        let missing = "is missing: run host/build or host/archive";
         fail(&format!("{} {}", archive.display(), missing));
     }
     println!("cargo:rustc-link-search=native={}", folder.display());
