@@ -1,9 +1,9 @@
 -- The one place of document 01's answer numbers: what it tells of an answer by name (document 01, "Answer numbers").
-use Rattle.std.specs.Prelude.{ℕ, Bool, true, false}
+use Rattle.std.specs.Prelude.{ℕ, Bool, Result, Ok, Err, ⊤, is_ok}
 use Rattle.answer.specs.declared.Refusal.{Refusal}
 use Rattle.answer.specs.declared.Refusal.TheVariants.{EndsTooSoon, WrongMark, WrongLength, OutOfPlace, WrongField, NotExpected, Missing, NotReadable}
-use Rattle.answer.specs.declared.Answer.{Answer}
-use Rattle.answer.specs.declared.Answer.TheVariants.{Accepted, OverLimit, WrongSignature, WrongVersion, Refused, TableFull}
+use Rattle.answer.specs.declared.Stopped.{Stopped}
+use Rattle.answer.specs.declared.Stopped.TheVariants.{OverLimit, WrongSignature, WrongVersion, Rule, TableFull}
 use Rattle.answer.specs.declared.Outcome.{Outcome}
 use Rattle.answer.specs.declared.Told.{Told}
 
@@ -17,21 +17,26 @@ refusal_number NotExpected = 9
 refusal_number Missing = 10
 refusal_number NotReadable = 11
 
+abbrev pub stopped_number : Stopped → ℕ
+stopped_number OverLimit = 1
+stopped_number WrongSignature = 3
+stopped_number WrongVersion = 4
+stopped_number (Rule r) = refusal_number r
+stopped_number TableFull = 12
+
+-- what a listing answers
+abbrev pub Answer : Type 0
+Answer = Result ⊤ Stopped
+
+abbrev pub Accepted : Answer
+Accepted = Ok tt
+
 abbrev pub answer_number : Answer → ℕ
-answer_number Accepted = 0
-answer_number OverLimit = 1
-answer_number WrongSignature = 3
-answer_number WrongVersion = 4
-answer_number (Refused r) = refusal_number r
-answer_number TableFull = 12
+answer_number (Ok _) = 0
+answer_number (Err s) = stopped_number s
 
 abbrev pub is_accepted : Answer → Bool
-is_accepted Accepted = true
-is_accepted OverLimit = false
-is_accepted WrongSignature = false
-is_accepted WrongVersion = false
-is_accepted (Refused r) = false
-is_accepted TableFull = false
+is_accepted a = is_ok a
 
 -- the answer on paper: number, place and count
 abbrev pub paper : Outcome → Told

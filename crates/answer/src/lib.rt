@@ -4,7 +4,8 @@
 #![tactic(auto)]
 
 ghost use Rattle.std.specs.Prelude.{◌≡◌};
-ghost use Rattle.answer.specs.Answers.{refusal_number, answer_number, is_accepted, paper};
+ghost use Rattle.answer.specs.declared.Stopped.TheVariants.{Rule};
+ghost use Rattle.answer.specs.Answers.{refusal_number, stopped_number, paper};
 
 // What a rule says of a place where it goes no further.
 #[derive(Clone, Copy)]
@@ -27,26 +28,24 @@ pub enum Refusal {
     NotReadable,
 }
 
-// What a listing answers: the file header and the table's room have answers of their own.
+// Why a listing is not accepted: the file header and the table's room have answers of their own beside the rules'.
 #[derive(Clone, Copy)]
-pub enum Answer {
-    // 0
-    Accepted,
+pub enum Stopped {
     // 1: too long an input
     OverLimit,
     // 3: another signature
     WrongSignature,
     // 4: another version
     WrongVersion,
-    Refused(Refusal),
+    Rule(Refusal),
     // 12
     TableFull,
 }
 
-// An answer, its place, and how many entries are listed.
+// What a listing answers, accepted or not, its place, and how many entries are listed.
 #[derive(Clone, Copy)]
 pub struct Outcome {
-    pub answer: Answer,
+    pub answer: Result<(), Stopped>,
     pub place: usize,
     pub count: usize,
 }
@@ -60,11 +59,19 @@ pub struct Told {
     pub count: usize,
 }
 
-impl Refusal {
-    fn number(self) -> u32
-        ensures { result ≡ refusal_number self }
-    {
-        match self {
+impl From<Refusal> for Stopped {
+    ghost from_gives = { λ refusal stopped. stopped ≡ Rule refusal };
+
+    fn from(refusal: Refusal) -> Stopped {
+        Stopped::Rule(refusal)
+    }
+}
+
+impl From<Refusal> for u32 {
+    ghost from_gives = { λ refusal number. number ≡ refusal_number refusal };
+
+    fn from(refusal: Refusal) -> u32 {
+        match refusal {
             Refusal::EndsTooSoon => 2,
             Refusal::WrongMark => 5,
             Refusal::WrongLength => 6,
@@ -77,43 +84,32 @@ impl Refusal {
     }
 }
 
-impl Answer {
-    pub fn number(self) -> u32
-        ensures { result ≡ answer_number self }
-    {
-        match self {
-            Answer::Accepted => 0,
-            Answer::OverLimit => 1,
-            Answer::WrongSignature => 3,
-            Answer::WrongVersion => 4,
-            Answer::Refused(refusal) => refusal.number(),
-            Answer::TableFull => 12,
-        }
-    }
+impl From<Stopped> for u32 {
+    ghost from_gives = { λ stopped number. number ≡ stopped_number stopped };
 
-    pub fn accepted(self) -> bool
-        ensures { result ≡ is_accepted self }
-    {
-        match self {
-            Answer::Accepted => true,
-            Answer::OverLimit => false,
-            Answer::WrongSignature => false,
-            Answer::WrongVersion => false,
-            Answer::Refused(_) => false,
-            Answer::TableFull => false,
+    fn from(stopped: Stopped) -> u32 {
+        match stopped {
+            Stopped::OverLimit => 1,
+            Stopped::WrongSignature => 3,
+            Stopped::WrongVersion => 4,
+            Stopped::Rule(refusal) => refusal.into(),
+            Stopped::TableFull => 12,
         }
     }
 }
 
-impl Outcome {
-    pub fn told(self) -> Told
-        ensures { result ≡ paper self }
-    {
-        let answer = self.answer;
+impl From<Outcome> for Told {
+    ghost from_gives = { λ outcome told. told ≡ paper outcome };
+
+    fn from(outcome: Outcome) -> Told {
+        let number = match outcome.answer {
+            Ok(()) => 0,
+            Err(stopped) => stopped.into(),
+        };
         Told {
-            number: answer.number(),
-            place: self.place,
-            count: self.count,
+            number,
+            place: outcome.place,
+            count: outcome.count,
         }
     }
 }

@@ -7,8 +7,9 @@ mod turning;
 
 ghost use Rattle.pencil.specs.Pencil.{Pencil};
 
-pub use numbers::{Asked, told};
-use pencil::{Paper, Reply, Turn};
+pub use numbers::Asked;
+use pencil::{Paper, Reply};
+use std::ops::ControlFlow;
 use turning::turn;
 
 // Entry k of an input in a room of so many entries, k counted from 0; or the final answer of the listing in this room, where it has no such
@@ -18,18 +19,14 @@ pub fn entry_at(input: &[u8], room: usize, k: usize) -> Reply
 {
     let head = listing::judge(input);
     let answer = head.answer;
-    if !answer.accepted() {
-        return Reply::Final(head);
+    if answer.is_err() {
+        return Err(head);
     }
     let mut paper = Paper::FIRST;
     loop {
         match turn(input, room, k, paper) {
-            Turn::Says(reply) => {
-                return reply;
-            }
-            Turn::Goes(next) => {
-                paper = next;
-            }
+            ControlFlow::Break(reply) => return reply,
+            ControlFlow::Continue(next) => paper = next,
         }
     }
 }

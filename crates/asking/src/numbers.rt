@@ -21,19 +21,21 @@ const NO_ANSWER: Told = Told {
     count: 0,
 };
 
-pub fn told(reply: Reply) -> Asked
-    ensures { result ≡ told reply }
-{
-    match reply {
-        Reply::Found(entry) => Asked {
-            found: 1,
-            listed: NO_ANSWER,
-            entry,
-        },
-        Reply::Final(outcome) => Asked {
-            found: 0,
-            listed: outcome.told(),
-            entry: Entry::NONE,
-        },
+impl From<Reply> for Asked {
+    ghost from_gives = { λ reply asked. asked ≡ told reply };
+
+    fn from(reply: Reply) -> Asked {
+        match reply {
+            Ok(entry) => Asked {
+                found: 1,
+                listed: NO_ANSWER,
+                entry,
+            },
+            Err(outcome) => Asked {
+                found: 0,
+                listed: outcome.into(),
+                entry: Entry::NONE,
+            },
+        }
     }
 }

@@ -1,55 +1,23 @@
 // One turn of the pencil: what is written next, by the rule of the place where it stands.
-ghost use Rattle.std.specs.Prelude.{◌≡◌, ◌≤◌};
+ghost use Rattle.std.specs.Prelude.{◌≡◌, ◌≤◌, Err};
+ghost use Rattle.answer.specs.declared.Stopped.TheVariants.{Rule};
 ghost use Rattle.kinds.specs.Blocks.{told};
-ghost use Rattle.pencil.specs.Pencil.{end_of, levels_of, entered, final, out_of, passed, turn_by, turn_at};
+ghost use Rattle.pencil.specs.Pencil.{final, out_of, passed, turn_by, turn_at};
 ghost use Rattle.pencil.specs.Standing.{Standing};
 
-use answer::{Answer, Outcome};
+use answer::{Outcome, Stopped};
 use block::Edge;
 use entry::Entry;
-use kinds::Step;
-use listing::BEYOND;
-use memory::{MAIN, State};
-use pencil::{Inside, Paper, Reply, Turn};
-
-// Where the inner block ends. At the main level no end is held against a block.
-fn end(inside: Inside) -> usize
-    ensures { result ≡ end_of inside }
-{
-    match inside {
-        Inside::Nothing => BEYOND,
-        Inside::One(end) => end,
-        Inside::Two(end, _) => end,
-    }
-}
-
-// How many more may be opened.
-fn levels(inside: Inside) -> usize
-    ensures { result ≡ levels_of inside }
-{
-    match inside {
-        Inside::Nothing => MAIN,
-        Inside::One(_) => 1,
-        Inside::Two(_, _) => 0,
-    }
-}
-
-// With one more open.
-fn enter(inside: Inside, end: usize) -> Inside
-    ensures { result ≡ entered end inside }
-{
-    match inside {
-        Inside::Nothing => Inside::One(end),
-        Inside::One(outer) => Inside::Two(end, outer),
-        Inside::Two(outer, _) => Inside::Two(end, outer),
-    }
-}
+use kinds::{Step, Stop};
+use memory::State;
+use pencil::{Inside, Paper, Turn};
+use std::ops::ControlFlow::{Break, Continue};
 
 // A final answer: so many entries were passed.
-fn last(paper: Paper, answer: Answer, place: usize) -> Turn
+fn last(paper: Paper, answer: Result<(), Stopped>, place: usize) -> Turn
     ensures { result ≡ final paper answer place }
 {
-    Turn::Says(Reply::Final(Outcome {
+    Break(Err(Outcome {
         answer,
         place,
         count: paper.count,
@@ -57,30 +25,28 @@ fn last(paper: Paper, answer: Answer, place: usize) -> Turn
 }
 
 // At an end: out of the inner block, or of the file.
+#[tactic(auto, unfolding(pencil::specs::Pencil::out_of))]
 fn out(paper: Paper) -> Turn
     ensures { result ≡ out_of paper paper.inside }
 {
-    let inside = paper.inside;
-    let state = paper.state;
-    let count = paper.count;
-    match inside {
-        Inside::Nothing => last(paper, Answer::Accepted, paper.place),
-        Inside::One(end) => Turn::Goes(Paper {
+    match paper.inside {
+        Inside::Nothing => last(paper, Ok(()), paper.place),
+        Inside::One(end) => Continue(Paper {
             place: end,
             inside: Inside::Nothing,
-            state,
-            count,
+            ..paper
         }),
-        Inside::Two(end, outer) => Turn::Goes(Paper {
+        Inside::Two(end, outer) => Continue(Paper {
             place: end,
             inside: Inside::One(outer),
-            state,
-            count,
+            ..paper
         }),
     }
 }
 
 // At an entry: no room is left for it, or it is the one, or it is passed and the pencil goes on.
+// Stays: (d) room, k and paper apart, here and below: the first two are asked, as `entry_at` has them, and the paper is written anew.
+#[tactic(auto, unfolding(pencil::specs::Pencil::passed, laws::specs::Choice::pick))]
 fn pass(
     room: usize,
     k: usize,
@@ -94,12 +60,12 @@ fn pass(
     ensures { result ≡ passed room k paper entry place inside state }
 {
     if paper.count == room {
-        return last(paper, Answer::TableFull, paper.place);
+        return last(paper, Err(Stopped::TableFull), paper.place);
     }
     if paper.count == k {
-        return Turn::Says(Reply::Found(entry));
+        return Break(Ok(entry));
     }
-    Turn::Goes(Paper {
+    Continue(Paper {
         place,
         inside,
         state,
@@ -107,22 +73,36 @@ fn pass(
     })
 }
 
+// At a refusal.
+fn stopped(paper: Paper, stop: Stop) -> Turn
+    ensures { result ≡ final paper (Err (Rule stop.refusal)) stop.place }
+{
+    last(paper, Err(stop.refusal.into()), stop.place)
+}
+
 // By what stands at the place: out, stop, on behind the block, or into it.
-fn by(room: usize, k: usize, paper: Paper, step: Step) -> Turn
+#[tactic(auto, unfolding(pencil::specs::Pencil::turn_by))]
+fn by(room: usize, k: usize, paper: Paper, step: Result<Step, Stop>) -> Turn
     requires { paper.count ≤ room }
     ensures { result ≡ turn_by room k paper (told step) }
 {
-    let inside = paper.inside;
     match step {
-        Step::End => out(paper),
-        Step::Stop { refusal, place } => last(paper, Answer::Refused(refusal), place),
-        Step::Leaf { entry, next, state } => pass(room, k, paper, entry, next, inside, state),
-        Step::Nest {
-            entry,
-            inside: first,
-            state,
-            after,
-        } => pass(room, k, paper, entry, first, enter(inside, after), state),
+        Ok(Step::End) => out(paper),
+        Ok(Step::Leaf { entry, next, state }) => {
+            pass(room, k, paper, entry, next, paper.inside, state)
+        }
+        Ok(
+            Step::Nest {
+                entry,
+                inside,
+                state,
+                after,
+            },
+        ) => {
+            let open = paper.inside.enter(after);
+            pass(room, k, paper, entry, inside, open, state)
+        }
+        Err(stop) => stopped(paper, stop),
     }
 }
 
@@ -133,16 +113,16 @@ pub fn turn(s: &[u8], room: usize, k: usize, paper: Paper) -> Turn
 {
     let inside = paper.inside;
     let state = paper.state;
-    let end = end(inside);
-    let levels = levels(inside);
+    let end = inside.end();
+    let levels = inside.levels();
     match block::edge_at(s, state, paper.place, end, levels) {
-        Edge::End => out(paper),
-        Edge::Stop(refusal) => last(paper, Answer::Refused(refusal), paper.place),
-        Edge::Block => by(
+        Ok(Edge::End) => out(paper),
+        Ok(Edge::Block) => by(
             room,
             k,
             paper,
             block::block(s, state, paper.place, end, levels),
         ),
+        Err(stop) => stopped(paper, stop),
     }
 }

@@ -1,5 +1,6 @@
--- Laws of the image attributes: the earliest bad field of any rule, and that it is the one to name; what an image chunk without one satisfies;
+-- Laws of the image attributes: counts against a depth; the earliest bad field of any rule, and that it is the one to name; what an image chunk without one satisfies;
 -- the value of a resolution and its dots per centimetre.
+pub mod Counts
 pub mod Earliest
 pub mod Named
 pub mod Order

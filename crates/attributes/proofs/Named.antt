@@ -10,11 +10,11 @@ use borrow.Author.Tests.{eq-eqb, ne_eqb, eqb-true, leb-true, ltb-true}
 use lib.Dec.{eqb, leb, ltb}
 use lib.ListN.{length, take}
 use lib.Seq.{take-take}
+use Rattle.std.specs.Prelude.{None, Some}
 use Rattle.laws.specs.Lists.{over}
 use Rattle.laws.proofs.Tests.{never, both, either, less_or_not}
 use Rattle.endian.specs.Number.{number_at, bytes_of}
 use Rattle.endian.proofs.Bytes.{bytes_length, each_byte, bytes_number, over_front, number_over}
-use Rattle.attributes.specs.declared.fault.Fault.TheVariants.{None, At}
 use Rattle.attributes.specs.Fault.{Field, field, earliest, First, Passed, Bytes, here, behind, in_front, in_order, Names}
 use Rattle.attributes.proofs.Earliest.{kept, first, named_none}
 
@@ -123,7 +123,7 @@ passes {offset} {s} {t} order same (next_field {o} {n} {p} {q} {xs} {ys} alike r
 -- by a rule whose fields stand in file order, look at no byte behind themselves, and can be mended
 pub names :
     (rule : List ℕ → List Field) → ((s : List ℕ) → in_order (rule s) ≡ true) → ((s t : List ℕ) → Alike s t (rule s) (rule t))
-    → (chunk : List ℕ) (offset : ℕ) → MendsEach rule chunk (rule chunk) → earliest (rule chunk) ≡ At offset → Names rule chunk offset
+    → (chunk : List ℕ) (offset : ℕ) → MendsEach rule chunk (rule chunk) → earliest (rule chunk) ≡ Some offset → Names rule chunk offset
 names rule order alike chunk offset mends h =
     let f = first offset (rule chunk) h in
     let m = mends_first mends f.1 in

@@ -7,8 +7,8 @@ use Rattle.attributes.proofs.depth.full.Reads as full
 use Rattle.attributes.proofs.depth.permitted.Reads as depth
 use Rattle.attributes.proofs.depth.short.Reads as short
 use Rattle.attributes.proofs.depth.within.Reads as within
-use Rattle.attributes.proofs.fault.Fault.unless.Reads as unless
-use Rattle.attributes.proofs.image_attributes.ImageChunk.decode.Reads as image
+use Rattle.attributes.proofs.fault.unless.Reads as unless
+use Rattle.attributes.proofs.image_attributes.ImageChunkFields.decode.Reads as image
 use Rattle.attributes.proofs.image_attributes.ImageChunk.judge.Reads as image-judge
 use Rattle.attributes.proofs.resolution.Resolution.decode.Reads as resolution
 use Rattle.attributes.proofs.resolution.Resolution.per_centimetre.Reads as per-centimetre

@@ -10,12 +10,12 @@ use borrow.Author.Tests.{eq-eqb}
 use lib.Dec.{eqb, leb, ltb}
 use lib.Ieee.{binary64, of_bits}
 use lib.ListN.{length}
+use Rattle.std.specs.Prelude.{Some}
 use Rattle.limits.specs.Limits.{layer_limit}
 use Rattle.laws.proofs.Tests.{one_of}
 use Rattle.endian.specs.Number.{signed, number_at, bytes_of}
 use Rattle.endian.proofs.Bytes.{bytes_length, over_front}
 use Rattle.endian.proofs.Front.{number_front}
-use Rattle.attributes.specs.declared.fault.Fault.TheVariants.{At}
 use Rattle.attributes.specs.Depth.{is_depth}
 use Rattle.attributes.specs.Fault.{Names}
 use Rattle.attributes.specs.ImageAttributes.{image_size, is_side, image_of, is_paletted, image_fault, image_rule}
@@ -79,6 +79,6 @@ module _ (s : List ℕ) (long : image_size ≤ length s) where
 -- ### The field that is named
 
 pub image_names :
-    (chunk : List ℕ) → image_size ≤ length chunk → (offset : ℕ) → image_fault (image_of chunk) ≡ At offset → Names image_rule chunk offset
+    (chunk : List ℕ) → image_size ≤ length chunk → (offset : ℕ) → image_fault (image_of chunk) ≡ Some offset → Names image_rule chunk offset
 unfolding image_fault
 image_names chunk long offset = names image_rule (λ s. refl) alike chunk offset (mends chunk long)

@@ -6,9 +6,9 @@ use native.Mathlib.Omega.{arith}
 use borrow.Author.Tests.{leb-true, eqb-true}
 use lib.Dec.{eqb, leb, ltb}
 use lib.IntN.{ℤ, pos, negsuc}
+use Rattle.std.specs.Prelude.{None}
 use Rattle.limits.specs.Limits.{side_limit}
 use Rattle.laws.proofs.Tests.{never, both, either}
-use Rattle.attributes.specs.declared.fault.Fault.TheVariants.{None}
 use Rattle.attributes.specs.declared.image_attributes.ImageChunk.{ImageChunk}
 use Rattle.attributes.specs.Depth.{is_depth, colour_bits}
 use Rattle.attributes.specs.ImageAttributes.{is_side, is_paletted, image_fields, image_fault}

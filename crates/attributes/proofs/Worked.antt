@@ -2,8 +2,8 @@
 use mathlib.Core.Path.{◌≡◌, refl}
 use mathlib.Core.List.{List, [], ◌∷◌}
 use Prim.Native.Nat.{ℕ}
+use Rattle.std.specs.Prelude.{None, Some}
 use Rattle.endian.specs.Number.{le, number_at, signed}
-use Rattle.attributes.specs.declared.fault.Fault.TheVariants.{None, At}
 use Rattle.attributes.specs.Fault.{unless_of}
 use Rattle.attributes.specs.ImageAttributes.{image_of, image_fault}
 use Rattle.attributes.specs.Resolution.{resolution_at}
@@ -18,6 +18,6 @@ pub no_fault : image_fault (image_of good) ≡ None
 unfolding image_fault image_of number_at le signed resolution_at unless_of
 no_fault = refl
 
-pub earlier_fault : image_fault (image_of bad) ≡ At 17
+pub earlier_fault : image_fault (image_of bad) ≡ Some 17
 unfolding image_fault image_of number_at le signed resolution_at unless_of
 earlier_fault = refl

@@ -1,14 +1,12 @@
 -- The earliest field of a chunk whose value is not permitted: answer 8 of document 01 is that there is one, and its place is the field's.
-use Rattle.std.specs.Prelude.{ℕ, ◌+◌, ◌<◌, ◌≡◌, Bool, true, false, ◌&&◌, List, [], ◌∷◌, leb, ltb, length, take}
+use Rattle.std.specs.Prelude.{ℕ, ◌+◌, ◌<◌, ◌≡◌, Bool, true, false, ◌&&◌, List, [], ◌∷◌, leb, ltb, length, take, Option, None, Some}
 use Rattle.laws.specs.All.{All}
 use Rattle.laws.specs.Lists.{over}
-use Rattle.attributes.specs.declared.fault.Fault.{Fault}
-use Rattle.attributes.specs.declared.fault.Fault.TheVariants.{None, At}
 
-unfoldable pub unless_of : Fault → Bool → ℕ → Fault
-unless_of (At earlier) permitted offset = At earlier
+unfoldable pub unless_of : Option ℕ → Bool → ℕ → Option ℕ
+unless_of (Some earlier) permitted offset = Some earlier
 unless_of None true offset = None
-unless_of None false offset = At offset
+unless_of None false offset = Some offset
 
 -- a rule is a list of fields in the order in which they are judged, each by its offset in the chunk, its size, and whether it is permitted
 pub record Field : Type 0 where
@@ -19,11 +17,11 @@ pub record Field : Type 0 where
 abbrev pub field : ℕ → ℕ → Bool → Field
 field o n p = record { offset = o; size = n; permitted = p }
 
-abbrev pub from : Fault → List Field → Fault
+abbrev pub from : Option ℕ → List Field → Option ℕ
 from f [] = f
 from f (x ∷ xs) = from (unless_of f x.permitted x.offset) xs
 
-abbrev pub earliest : List Field → Fault
+abbrev pub earliest : List Field → Option ℕ
 earliest xs = from None xs
 
 -- ### What it means that a field is named (document 02, request vi)

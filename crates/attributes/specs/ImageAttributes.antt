@@ -1,10 +1,9 @@
 -- The general image attributes chunk (document 000, section 5.3) and the rule of its fields (document 01, "Image, id 0").
-use Rattle.std.specs.Prelude.{ℕ, ◌^◌, Bool, ◌&&◌, ◌||◌, not, List, [], ◌∷◌, eqb, leb, ltb, ℤ, pos}
+use Rattle.std.specs.Prelude.{ℕ, ◌^◌, Bool, ◌&&◌, ◌||◌, not, List, [], ◌∷◌, eqb, leb, ltb, ℤ, pos, Option}
 use Rattle.std.specs.Int.Signed.{le_z}
 use Rattle.endian.specs.Number.{number_at, signed_at}
 use Rattle.laws.specs.Lists.{part}
 use Rattle.limits.specs.Limits.{side_limit, layer_limit}
-use Rattle.attributes.specs.declared.fault.Fault.{Fault}
 use Rattle.attributes.specs.declared.image_attributes.ImageChunk.{ImageChunk}
 use Rattle.attributes.specs.Depth.{is_depth}
 use Rattle.attributes.specs.Fault.{Field, field, earliest}
@@ -55,7 +54,7 @@ image_fields c =
     ∷ field 36 2 (leb 1 c.layers && leb c.layers layer_limit && (not (is_paletted c) || eqb c.layers 1))
     ∷ []
 
-unfoldable pub image_fault : ImageChunk → Fault
+unfoldable pub image_fault : ImageChunk → Option ℕ
 image_fault c = earliest (image_fields c)
 
 -- the rule, by the chunk's bytes

@@ -1,12 +1,10 @@
 -- A resolution (document 01, "Resolution"; document 000, section 5.3).
-use Rattle.std.specs.Prelude.{ℕ, ◌+◌, Bool, false, ◌&&◌, ◌||◌, List, eqb, leb, Float, pos}
+use Rattle.std.specs.Prelude.{ℕ, ◌+◌, Bool, false, ◌&&◌, ◌||◌, List, eqb, leb, Float, pos, Option, None, Some}
 use Rattle.std.specs.Float.{inf, fin, binary64}
 use Rattle.std.specs.Float.Ieee.{lt, div, round}
 use Rattle.laws.specs.Choice.{pick}
 use Rattle.endian.specs.Number.{number_at, double_at}
 use Rattle.attributes.specs.declared.resolution.Resolution.{Resolution}
-use Rattle.attributes.specs.declared.resolution.Density.{Density}
-use Rattle.attributes.specs.declared.resolution.Density.TheVariants.{Absent, Dots as Known}
 use Rattle.attributes.specs.declared.resolution.Dots.{Dots}
 
 unfoldable pub resolution_at : List ℕ → ℕ → Resolution
@@ -25,14 +23,14 @@ abbrev pub centimetres_per_inch : Float
 centimetres_per_inch = round binary64 false 254 100
 
 -- dots a centimetre of a value that can be used: as it is, or one division; none for any other metric
-unfoldable pub density_of : Resolution → Density
+unfoldable pub density_of : Resolution → Option Float
 density_of r =
     pick (is_usable r.value)
-    (pick (eqb r.metric 2) (Known r.value)
-    (pick (eqb r.metric 1) (Known (div binary64 r.value centimetres_per_inch)) Absent))
-    Absent
+    (pick (eqb r.metric 2) (Some r.value)
+    (pick (eqb r.metric 1) (Some (div binary64 r.value centimetres_per_inch)) None))
+    None
 
 -- in numbers: 0 where there are none
-abbrev pub dots_of : Density → Dots
-dots_of Absent = record { known = 0; value = fin false 0 (pos 0) }
-dots_of (Known x) = record { known = 1; value = x }
+abbrev pub dots_of : Option Float → Dots
+dots_of None = record { known = 0; value = fin false 0 (pos 0) }
+dots_of (Some x) = record { known = 1; value = x }

@@ -1,27 +1,12 @@
-// The earliest field of a chunk whose value is not permitted.
-ghost use Rattle.std.specs.Prelude.{◌≡◌};
+// A fault is the offset of the earliest field of a chunk whose value is not permitted, where there is one. Each field is judged by itself, and
+// `or` keeps the earlier.
+ghost use Rattle.std.specs.Prelude.{None, ◌≡◌};
 ghost use Rattle.attributes.specs.Fault.{unless_of};
 
-// An offset is that of the field in its chunk.
-#[derive(Clone, Copy)]
-pub enum Fault {
-    None,
-    At(u32),
-}
-
-impl Fault {
-    // The fault so far, or this field if it is the first that is not permitted.
-    pub fn unless(self, permitted: bool, offset: u32) -> Fault
-        ensures { result ≡ unless_of self permitted offset }
-    {
-        match self {
-            Fault::None => {
-                if permitted {
-                    return Fault::None;
-                }
-                Fault::At(offset)
-            }
-            Fault::At(earlier) => Fault::At(earlier),
-        }
-    }
+// The field at an offset, unless its value is permitted.
+#[tactic(auto, using(crate::proofs::Earliest::alone))]
+pub fn unless(permitted: bool, offset: u32) -> Option<u32>
+    ensures { result ≡ unless_of None permitted offset }
+{
+    (!permitted).then_some(offset)
 }

@@ -5,6 +5,7 @@ use mathlib.Core.List.{List}
 use Prim.Native.Nat.{ℕ, ◌-◌}
 use lib.Dec.{eqb, ltb}
 use lib.ListN.{length}
+use Rattle.std.specs.Prelude.{Result, Ok, Err}
 use Rattle.laws.specs.Choice.{pick}
 use Rattle.answer.specs.declared.Refusal.TheVariants.{EndsTooSoon, WrongLength, Missing}
 use Rattle.walk.specs.Walk as walk
@@ -12,9 +13,10 @@ use Rattle.headers.specs.BlockHeader.{block_header_size}
 use Rattle.memory.specs.declared.state.State.{State}
 use Rattle.memory.specs.Parent.{main, parent_at}
 use Rattle.memory.specs.State.{is_full}
+use Rattle.kinds.specs.declared.answers.Stop.{Stop}
 use Rattle.kinds.specs.Blocks.{unless}
 use Rattle.block.specs.declared.looking.Edge.{Edge}
-use Rattle.block.specs.declared.looking.Edge.TheVariants.{End, Stop, Block}
+use Rattle.block.specs.declared.looking.Edge.TheVariants.{End, Block}
 use Rattle.block.specs.Step.{block_at, step_at}
 use Rattle.block.specs.Edge.{edge_of, edged}
 
@@ -23,7 +25,8 @@ module _ (s : List ℕ) (st : State) (at end levels : ℕ) where
   by_tests :
       (top whole none few full : Bool)
       → edged s st at end levels
-      (pick (pick top whole none) (pick full End (Stop (pick top EndsTooSoon Missing))) (pick (pick top false few) (Stop WrongLength) Block))
+      (pick (pick top whole none) (pick full (Ok End) (Err (record { refusal = pick top EndsTooSoon Missing; place = at })))
+      (pick (pick top false few) (Err (record { refusal = WrongLength; place = at })) (Ok Block)))
       ≡ pick top (pick whole (unless full (walk.Stop EndsTooSoon at) walk.End) (block_at s st at end levels))
       (pick none (unless full (walk.Stop Missing at) walk.End) (pick few (walk.Stop WrongLength at) (block_at s st at end levels)))
   unfolding pick
@@ -41,5 +44,5 @@ module _ (s : List ℕ) (st : State) (at end levels : ℕ) where
       by_tests (eqb levels main) (eqb at (length s)) (eqb at end) (ltb (end - at) block_header_size) (is_full st (parent_at st.opened levels))
 
   -- so where that is known, the step is
-  pub edge_known : {e : Edge} → edge_of s st at end levels ≡ e → edged s st at end levels e ≡ step_at s st at end levels
+  pub edge_known : {e : Result Edge Stop} → edge_of s st at end levels ≡ e → edged s st at end levels e ≡ step_at s st at end levels
   edge_known is = ap (edged s st at end levels) (sym is) ∙ edge_step

@@ -6,6 +6,7 @@ use native.Mathlib.Omega.{arith}
 use borrow.Author.Tests.{eqb-true, ne_eqb}
 use lib.Dec.{eqb}
 use lib.ListN.{length, length-append}
+use Rattle.std.specs.Prelude.{Option}
 use Rattle.laws.proofs.Choice.{pick_no, pick_ind, pick_ind₂, pick_left}
 use Rattle.entry.specs.declared.Entry.{Entry}
 use Rattle.walk.specs.Walk.{Step}
@@ -16,7 +17,6 @@ use Rattle.headers.specs.declared.block_header.BlockHeader.{BlockHeader}
 use Rattle.headers.specs.BlockHeader.{block_header_size}
 use Rattle.attributes.specs.ImageAttributes.{image_size}
 use Rattle.chunk.specs.Heads.{image_head, palette_head, channel_head}
-use Rattle.attributes.specs.declared.fault.Fault.{Fault}
 use Rattle.chunk.specs.AlphaBankInformation.{alpha_bank_size}
 use Rattle.chunk.specs.AlphaInformation.{alpha_size}
 use Rattle.chunk.specs.ColorPalette.{palette_size}
@@ -128,7 +128,7 @@ module _ (s t : List ℕ) (st : State) (at end levels level : ℕ) where
   skip_waits h = unit_waits main levels s t (at + block_header_size) h.total _ _ (λ short _. leaf_past short) (λ _. stays _)
 
   nest_block_waits :
-      (total size : ℕ) (fault : List ℕ → Fault) (e : Entry) (q : List ℕ → State) → W (nest_block s total at size fault e q) (nest_block (s ++ t) total at size fault e q)
+      (total size : ℕ) (fault : List ℕ → Option ℕ) (e : Entry) (q : List ℕ → State) → W (nest_block s total at size fault e q) (nest_block (s ++ t) total at size fault e q)
   nest_block_waits total size fault e q =
       unit_waits main levels s t (at + block_header_size) size _ _
       (λ short xs. let far : length s < at + (block_header_size + size) = omega arith in permitted_ind (Beyond (length s) main levels) _ _ _ (λ _ _. refused) (λ _. nest_past far))

@@ -7,6 +7,7 @@ use native.Mathlib.Omega.{arith}
 use borrow.Author.Tests.{eqb-true, eqb-false, leb-true}
 use lib.Dec.{eqb}
 use lib.ListN.{length}
+use Rattle.std.specs.Prelude.{Option, None, Some}
 use Rattle.laws.specs.Lists.{part}
 use Rattle.laws.proofs.Choice.{pick_ind}
 use Rattle.laws.proofs.Tests.{both}
@@ -20,8 +21,6 @@ use Rattle.walk.specs.Walk.{Step, End, Stop, Leaf, Nest}
 use Rattle.walk.proofs.Unit.{unit_ind}
 use Rattle.headers.specs.declared.block_header.BlockHeader.{BlockHeader}
 use Rattle.headers.specs.BlockHeader.{block_header_size, block_header_of, block_header_at, is_marked}
-use Rattle.attributes.specs.declared.fault.Fault.{Fault}
-use Rattle.attributes.specs.declared.fault.Fault.TheVariants.{None, At}
 use Rattle.attributes.specs.ImageAttributes.{image_size, image_at, image_fault}
 use Rattle.chunk.specs.declared.channel_information.ChannelChunk.{ChannelChunk}
 use Rattle.chunk.specs.AlphaBankInformation.{alpha_bank_size, alpha_bank_at}
@@ -189,21 +188,21 @@ module _ (s : List ℕ) (st : State) (at end levels : ℕ) where
 
   -- the field at an offset of the chunk, by the kind of block; a channel's codes come before its plane length
   pub data FaultOf (offset : ℕ) : Type 0 where
-    an_image's : Chunked s at 0 image_size → st.image.depth ≡ 0 → image_fault (image_at s chunk_place) ≡ At offset → FaultOf offset
+    an_image's : Chunked s at 0 image_size → st.image.depth ≡ 0 → image_fault (image_at s chunk_place) ≡ Some offset → FaultOf offset
     a_palette's :
-        Chunked s at 2 palette_size → Begun st → (st.image.depth ≡ 24 → ⊥) → palette_fault st.image.depth (palette_at s chunk_place) ≡ At offset
+        Chunked s at 2 palette_size → Begun st → (st.image.depth ≡ 24 → ⊥) → palette_fault st.image.depth (palette_at s chunk_place) ≡ Some offset
         → FaultOf offset
     a_layer's :
-        Chunked s at 4 layer_size → Begun st → levels ≡ 1 → st.opened ≡ Layers → layer_fault st.image.depth (layer_at s chunk_place) ≡ At offset
+        Chunked s at 4 layer_size → Begun st → levels ≡ 1 → st.opened ≡ Layers → layer_fault st.image.depth (layer_at s chunk_place) ≡ Some offset
         → FaultOf offset
-    a_code's : Chunked s at 5 channel_size → Begun st → is_host parent ≡ true → codes_fault (channel_at s chunk_place) ≡ At offset → FaultOf offset
+    a_code's : Chunked s at 5 channel_size → Begun st → is_host parent ≡ true → codes_fault (channel_at s chunk_place) ≡ Some offset → FaultOf offset
     a_plane's :
         Chunked s at 5 channel_size → Begun st → is_host parent ≡ true → 0 < st.current.left → codes_fault (channel_at s chunk_place) ≡ None
         → is_awaited st parent (channel_at s chunk_place) ≡ true
-        → plane_fault (shape_for st.current st.image.depth (channel_at s chunk_place).bitmap) (channel_at s chunk_place) ≡ At offset → FaultOf offset
-    a_selection's : Chunked s at 6 selection_size → Begun st → levels ≡ main → selection_fault (selection_at s chunk_place) ≡ At offset → FaultOf offset
+        → plane_fault (shape_for st.current st.image.depth (channel_at s chunk_place).bitmap) (channel_at s chunk_place) ≡ Some offset → FaultOf offset
+    a_selection's : Chunked s at 6 selection_size → Begun st → levels ≡ main → selection_fault (selection_at s chunk_place) ≡ Some offset → FaultOf offset
     an_alpha's :
-        Chunked s at 8 alpha_size → Begun st → levels ≡ 1 → st.opened ≡ Alphas → alpha_fault (alpha_at s chunk_place) ≡ At offset → FaultOf offset
+        Chunked s at 8 alpha_size → Begun st → levels ≡ 1 → st.opened ≡ Alphas → alpha_fault (alpha_at s chunk_place) ≡ Some offset → FaultOf offset
 
   -- ### The step
 
@@ -326,8 +325,8 @@ module _ (s : List ℕ) (st : State) (at end levels : ℕ) where
 
     -- a block that is entered behind its chunk, by what a fault and what its absence makes of it
     nest_stepped :
-        (id size : ℕ) (fault : List ℕ → Fault) (e : Entry) (q : List ℕ → State) → h.id ≡ id → size ≤ h.total → OfHeader e
-        → ((offset : ℕ) → Chunked s at id size → fault (part s chunk_place size) ≡ At offset → FaultOf offset)
+        (id size : ℕ) (fault : List ℕ → Option ℕ) (e : Entry) (q : List ℕ → State) → h.id ≡ id → size ≤ h.total → OfHeader e
+        → ((offset : ℕ) → Chunked s at id size → fault (part s chunk_place size) ≡ Some offset → FaultOf offset)
         → (Inside size h.total (at + (block_header_size + size)) (chunk_place + h.total) → fault (part s chunk_place size) ≡ None
         → NestOf e (at + (block_header_size + size)) (q (part s chunk_place size)) (chunk_place + h.total))
         → Stepped (nest_block s h.total at size fault e q)

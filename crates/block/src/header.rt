@@ -1,12 +1,11 @@
 // A block: its header, its place, its count and its lengths; then its kind.
-ghost use Rattle.std.specs.Prelude.{◌≡◌, ◌≤◌, ◌<◌, ◌^◌, length};
+ghost use Rattle.std.specs.Prelude.{◌≡◌, ◌≤◌, ◌<◌, ◌^◌, ◌&&◌, eqb, leb, length};
 ghost use Rattle.limits.specs.Limits.{input_limit};
 ghost use Rattle.memory.specs.declared.places.Placing.TheVariants as placing;
 ghost use Rattle.memory.specs.Parent.{main};
 ghost use Rattle.memory.specs.Place.{place_of};
-ghost use Rattle.kinds.specs.Headed.{Headed};
 ghost use Rattle.kinds.specs.Blocks.{told};
-ghost use Rattle.block.specs.Step.{are_lengths, kind_of, placed_of, block_at, Roomy};
+ghost use Rattle.block.specs.Step.{are_lengths, is_inside, kind_of, placed_of, block_at, Roomy};
 
 use answer::Refusal;
 use attributes::image_attributes::ImageChunk;
@@ -17,152 +16,104 @@ use chunk::color_palette::PaletteChunk;
 use chunk::layer_information::LayerChunk;
 use chunk::selection_information::SelectionChunk;
 use headers::block_header::BlockHeader;
-use kinds::Step;
+use headers::fields::Fields;
+use headers::kind::Kind;
+use kinds::{Here, Step, Stop};
 use memory::{MAIN, Parent, Placing, State};
 
+// Its initial length is that of its chunk, which the total holds.
+fn holds<C: Fields>(h: BlockHeader) -> bool
+    ensures { result ≡ (eqb h.initial C.SIZE && leb C.SIZE h.total) }
+{
+    (h.initial as usize == C::SIZE) & (C::SIZE <= h.total as usize)
+}
+
 // The lengths of a block that is entered, by its id.
+#[tactic(auto, unfolding(crate::specs::Step::are_lengths, laws::specs::Choice::pick))]
 pub fn lengths(h: BlockHeader) -> bool
     ensures { result ≡ are_lengths h }
 {
-    let id = h.id;
-    let initial = h.initial as usize;
-    let total = h.total as usize;
-    match id {
-        0 => (initial == ImageChunk::SIZE) & (total == ImageChunk::SIZE),
-        2 => (initial == PaletteChunk::SIZE) & (PaletteChunk::SIZE <= total),
-        3 => initial == 0,
-        4 => ((initial == LayerChunk::SIZE) | (initial == 0)) & (LayerChunk::SIZE <= total),
-        6 => (initial == SelectionChunk::SIZE) & (SelectionChunk::SIZE <= total),
-        7 => (initial == AlphaBankChunk::SIZE) & (AlphaBankChunk::SIZE <= total),
-        8 => (initial == AlphaChunk::SIZE) & (AlphaChunk::SIZE <= total),
-        _ => (initial == ChannelChunk::SIZE) & (ChannelChunk::SIZE <= total),
+    match Kind::try_from(h.id) {
+        Ok(Kind::Image) => holds::<ImageChunk>(h) & (h.total as usize == ImageChunk::SIZE),
+        Ok(Kind::Palette) => holds::<PaletteChunk>(h),
+        Ok(Kind::Bank) => h.initial == 0,
+        Ok(Kind::Layer) => {
+            holds::<LayerChunk>(h) | ((h.initial == 0) & (LayerChunk::SIZE <= h.total as usize))
+        }
+        Ok(Kind::Selection) => holds::<SelectionChunk>(h),
+        Ok(Kind::AlphaBank) => holds::<AlphaBankChunk>(h),
+        Ok(Kind::Alpha) => holds::<AlphaChunk>(h),
+        _ => holds::<ChannelChunk>(h),
     }
+}
+
+// Its total stays inside its parent.
+fn inside(here: Here, h: BlockHeader, end: usize) -> bool
+    ensures { result ≡ is_inside h here.entry.at end }
+{
+    here.chunk_place() + h.total as usize <= end
 }
 
 // Its chunk, by kind; a channel is also judged by what holds it.
-fn kind(s: &[u8], st: State, parent: Parent, h: BlockHeader, at: usize, level: usize) -> Step
-    requires { (Headed s.now at level) × (Roomy st h.id) }
-    ensures { told result ≡ kind_of s.now st parent h at level }
+#[tactic(auto, unfolding(crate::specs::Step::kind_of, laws::specs::Choice::pick))]
+fn kind(here: Here, st: State, parent: Parent, h: BlockHeader) -> Result<Step, Stop>
+    requires { Roomy st h.id }
+    ensures { told result ≡ kind_of here.entry.input.now st parent h here.entry.at here.entry.level }
 {
-    if h.id == 0 {
-        return kinds::image_block(s, st, at, level);
+    match Kind::try_from(h.id) {
+        Ok(Kind::Image) => kinds::image_block(here, st),
+        Ok(Kind::Palette) => kinds::palette_block(here, st, h.total),
+        Ok(Kind::Bank) => Ok(kinds::bank_block(st, h.total, here.at, here.level)),
+        Ok(Kind::Layer) => layers::layer_block(here, st, h.total),
+        Ok(Kind::Selection) => masks::selection_block(here, st, h.total),
+        Ok(Kind::AlphaBank) => masks::alpha_bank_block(here, st, h.total),
+        Ok(Kind::Alpha) => masks::alpha_block(here, st, h.total),
+        _ => layers::channel_block(here, st, parent, h.total),
     }
-    if h.id == 2 {
-        return kinds::palette_block(s, st, h.total, at, level);
-    }
-    if h.id == 3 {
-        return kinds::bank_block(st, h.total, at, level);
-    }
-    if h.id == 4 {
-        return layers::layer_block(s, st, h.total, at, level);
-    }
-    if h.id == 6 {
-        return masks::selection_block(s, st, h.total, at, level);
-    }
-    if h.id == 7 {
-        return masks::alpha_bank_block(s, st, h.total, at, level);
-    }
-    if h.id == 8 {
-        return masks::alpha_block(s, st, h.total, at, level);
-    }
-    layers::channel_block(s, st, parent, h.total, at, level)
 }
 
 // One more than announced (9), lengths (6).
-fn entered(
-    s: &[u8],
-    st: State,
-    h: BlockHeader,
-    at: usize,
-    end: usize,
-    level: usize,
-    parent: Parent,
-) -> Step
-    requires { (Headed s.now at level) × (place_of st h.id parent ≡ placing.Enter) }
-    ensures { told result ≡ placed_of s.now st parent h placing.Enter at end level }
+#[tactic(auto, using(kinds::proofs::Judging::handed_on, crate::proofs::Passed::roomy), unfolding(crate::specs::Step::placed_of, laws::specs::Choice::pick))]
+fn entered(here: Here, st: State, parent: Parent, h: BlockHeader, end: usize) -> Result<Step, Stop>
+    requires { place_of st h.id parent ≡ placing.Enter }
+    ensures { told result ≡ placed_of here.entry.input.now st parent h placing.Enter here.entry.at end here.entry.level }
 {
     if st.surplus(h.id) {
-        return Step::Stop {
-            refusal: Refusal::NotExpected,
-            place: at,
-        };
+        return Err(here.stop(Refusal::NotExpected));
     }
-    let after = at + BlockHeader::SIZE + h.total as usize;
-    if lengths(h) & (after <= end) {
-        return kind(s, st, parent, h, at, level);
-    }
-    Step::Stop {
-        refusal: Refusal::WrongLength,
-        place: at,
-    }
+    here.unless(lengths(h) & inside(here, h, end), Refusal::WrongLength)?;
+    kind(here, st, parent, h)
 }
 
 // Only its total is judged (6).
-fn skipped(
-    s: &[u8],
-    st: State,
-    h: BlockHeader,
-    at: usize,
-    end: usize,
-    level: usize,
-    parent: Parent,
-) -> Step
-    requires { Headed s.now at level }
-    ensures { told result ≡ placed_of s.now st parent h placing.Skip at end level }
+#[tactic(auto, using(kinds::proofs::Judging::handed_on), unfolding(crate::specs::Step::placed_of))]
+fn skipped(here: Here, st: State, parent: Parent, h: BlockHeader, end: usize) -> Result<Step, Stop>
+    ensures { told result ≡ placed_of here.entry.input.now st parent h placing.Skip here.entry.at end here.entry.level }
 {
-    let after = at + BlockHeader::SIZE + h.total as usize;
-    if after <= end {
-        return kinds::skip_block(s, st, h.id, h.total, at, level);
-    }
-    Step::Stop {
-        refusal: Refusal::WrongLength,
-        place: at,
-    }
+    here.unless(inside(here, h, end), Refusal::WrongLength)?;
+    kinds::skip_block(here, st, h.id, h.total)
 }
 
 // Its place (7), by what holds it.
-fn placed(
-    s: &[u8],
-    st: State,
-    h: BlockHeader,
-    at: usize,
-    end: usize,
-    level: usize,
-    parent: Parent,
-) -> Step
-    requires { Headed s.now at level }
-    ensures { told result ≡ placed_of s.now st parent h (place_of st h.id parent) at end level }
+#[tactic(auto, unfolding(crate::specs::Step::placed_of))]
+fn placed(here: Here, st: State, parent: Parent, h: BlockHeader, end: usize) -> Result<Step, Stop>
+    ensures { told result ≡ placed_of here.entry.input.now st parent h (place_of st h.id parent) here.entry.at end here.entry.level }
 {
     match memory::place(st, h.id, parent) {
-        Placing::Refuse => Step::Stop {
-            refusal: Refusal::OutOfPlace,
-            place: at,
-        },
-        Placing::Enter => entered(s, st, h, at, end, level, parent),
-        Placing::Skip => skipped(s, st, h, at, end, level, parent),
+        Placing::Refuse => Err(here.stop(Refusal::OutOfPlace)),
+        Placing::Enter => entered(here, st, parent, h, end),
+        Placing::Skip => skipped(here, st, parent, h, end),
     }
 }
 
 // Presence (2), mark (5).
-pub fn block(s: &[u8], st: State, at: usize, end: usize, levels: usize) -> Step
+#[tactic(auto, using(kinds::proofs::Judging::handed_on), unfolding(crate::specs::Step::block_at))]
+pub fn block(s: &[u8], st: State, at: usize, end: usize, levels: usize) -> Result<Step, Stop>
     requires { (length s.now ≤ input_limit) × (at ≤ end) × (end < 2 ^ 40) × (levels ≤ main) }
     ensures { told result ≡ block_at s.now st at end levels }
 {
-    let chunk = at + BlockHeader::SIZE;
-    if s.len() < chunk {
-        return Step::Stop {
-            refusal: Refusal::EndsTooSoon,
-            place: at,
-        };
-    }
-    let h = BlockHeader::decode(s, at);
-    if h.marked() {
-        let opened = st.opened;
-        let parent = Parent::at(opened, levels);
-        return placed(s, st, h, at, end, MAIN - levels, parent);
-    }
-    Step::Stop {
-        refusal: Refusal::WrongMark,
-        place: at,
-    }
+    let here = Here::at(s, at, MAIN - levels)?;
+    let h = here.header();
+    here.unless(h.marked(), Refusal::WrongMark)?;
+    placed(here, st, Parent::at(st.opened, levels), h, end)
 }

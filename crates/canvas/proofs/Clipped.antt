@@ -17,6 +17,7 @@ use Rattle.rect.specs.Rect.{Span, Proper, side_of, width_of, height_of, is_empty
 use Rattle.rect.specs.Shared.{has_pixel, shared_of, greater_of, lesser_of}
 use Rattle.rect.proofs.Pixels.{Framed, framed_some, empty_has, shared_pixels}
 use Rattle.canvas.specs.Placing.{byte_of, pixel_of, on_canvas}
+use Rattle.canvas.specs.declared.rows.Rows.{Rows}
 use Rattle.canvas.specs.Blocks.{frame_of, Room, Fit, rows_of}
 use Rattle.canvas.proofs.Block.{row_inside, rows_length, block_in, block_out}
 use Rattle.canvas.proofs.Axes.{Cut, cut, Clip, clip, on_canvas_lem, in_plane, shared_span}
@@ -34,6 +35,12 @@ pub record Clipping (width height : ℕ) (canvas : List ℕ) (r : Rect) (plane :
   pub fit : Fit width height canvas r plane row
   pub whole_is : whole ≡ frame_of width height
   pub s_is : s ≡ shared_of r whole
+
+pub clipping_of :
+    {width height : ℕ} {canvas : List ℕ} {r : Rect} {plane : List ℕ} {row : ℕ} {whole s : Rect}
+    → Fit width height canvas r plane row → whole ≡ frame_of width height → s ≡ shared_of r whole
+    → Clipping width height canvas r plane row whole s
+clipping_of f w s = record { fit = f; whole_is = w; s_is = s }
 
 module _
     {width height : ℕ} {canvas : List ℕ} {r : Rect} {plane : List ℕ} {row : ℕ} {whole s : Rect}
@@ -178,23 +185,19 @@ module _
 
     -- as the code has the numbers
     module _
-        (at from w h : ℕ) (at-is : at ≡ byte_of whole width s.left s.top) (from_is : from ≡ byte_of r row s.left s.top)
-        (w-is : w ≡ width_of s) (h-is : h ≡ height_of s) where
-      at_starts : at ≡ y₀ * width + x₀
+        (on of : Rows) (w h : ℕ) (on_is : (on.first ≡ byte_of whole width s.left s.top) × (on.apart ≡ width))
+        (of_is : (of.first ≡ byte_of r row s.left s.top) × (of.apart ≡ row)) (w-is : w ≡ width_of s) (h-is : h ≡ height_of s) where
+      at_starts : on.first ≡ y₀ * width + x₀
       unfolding x₀ y₀
-      at_starts = at-is ∙ ap (λ (f : Rect). byte_of f width s.left s.top) clipping.whole_is
+      at_starts = on_is.0 ∙ ap (λ (f : Rect). byte_of f width s.left s.top) clipping.whole_is
 
-      from_starts : from ≡ dy * row + dx
+      from_starts : of.first ≡ dy * row + dx
       unfolding dx dy
-      from_starts = from_is
+      from_starts = of_is.0
 
-      pub rows_room : Room plane row from w canvas width at h
-      rows_room =
-          record {
-            there = λ i k. omega (arith, at_starts, room.there i (omega arith));
-            here = λ i k. omega (arith, from_starts, room.here i (omega arith));
-          }
+      pub rows_room : Room plane of.apart of.first w canvas on.apart on.first h
+      rows_room = rw (of_is.1, on_is.1, from_starts, at_starts, w-is, h-is) room
 
-      pub rows_place : rows_of plane row from w canvas width at h ≡ on_canvas width row r plane canvas
+      pub rows_place : rows_of plane of.apart of.first w canvas on.apart on.first h ≡ on_canvas width row r plane canvas
       unfolding block
-      rows_place = (λ i. rows_of plane row (from_starts i) (w-is i) canvas width (at_starts i) (h-is i)) ∙ block_is
+      rows_place = (λ i. rows_of plane (of_is.1 i) (from_starts i) (w-is i) canvas (on_is.1 i) (at_starts i) (h-is i)) ∙ block_is

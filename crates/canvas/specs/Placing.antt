@@ -1,5 +1,6 @@
 -- A plane on a canvas (document 01, Canvas and palette; document 02, request i: the row).
-use Rattle.std.specs.Prelude.{ℕ, ◌+◌, ◌*◌, ◌/◌, ◌%◌, ◌<◌, ◌≡◌, Bool, true, false, ◌&&◌, not, ◌⊎◌, List, eqb, leb, ℤ, pos, length, get_or}
+use Rattle.std.specs.Prelude.{ℕ, ◌+◌, ◌*◌, ◌/◌, ◌%◌, ◌<◌, ◌≡◌, Bool, true, false, ◌&&◌, not, ◌⊎◌, List, eqb, leb, ℤ, pos, length, get_or, Ok, Err}
+use Rattle.std.specs.Prelude.{Result as Answer}
 use Rattle.laws.specs.Choice.{pick}
 use Rattle.laws.specs.Lists.{indexed}
 use Rattle.laws.specs.Results.{Result}
@@ -8,17 +9,21 @@ use Rattle.rect.specs.declared.Rect.{Rect}
 use Rattle.rect.specs.Rect.{side_of, width_of, height_of, is_within}
 use Rattle.rect.specs.Rows.{row_of, is_form}
 use Rattle.rect.specs.Shared.{has_pixel}
-use Rattle.canvas.specs.declared.PlaceAnswer.{PlaceAnswer}
-use Rattle.canvas.specs.declared.PlaceAnswer.TheVariants.{Placed, BadCanvas, BadRect, BadPlane}
+use Rattle.canvas.specs.declared.PlaceError.{PlaceError}
+use Rattle.canvas.specs.declared.PlaceError.TheVariants.{BadCanvas, BadRect, BadPlane}
 
--- the document's number of an answer
-abbrev pub place_paper : PlaceAnswer → ℕ
-place_paper Placed = 0
-place_paper BadCanvas = 40
-place_paper BadRect = 41
-place_paper BadPlane = 42
+-- the document's number of a refusal
+abbrev pub refusal : PlaceError → ℕ
+refusal BadCanvas = 40
+refusal BadRect = 41
+refusal BadPlane = 42
 
-abbrev pub place_result : PlaceAnswer → List ℕ → Result ℕ
+-- and of an answer
+abbrev pub place_paper : Answer (Unit {0}) PlaceError → ℕ
+place_paper (Ok done) = 0
+place_paper (Err e) = refusal e
+
+abbrev pub place_result : Answer (Unit {0}) PlaceError → List ℕ → Result ℕ
 place_result answer canvas = record { told = place_paper answer; dest = canvas }
 
 abbrev pub untouched : ℕ → List ℕ → Result ℕ

@@ -5,7 +5,7 @@ ghost use Rattle.rect.specs.Rect.{Span};
 ghost use Rattle.canvas.specs.Placing.{byte_of, on_canvas};
 ghost use Rattle.canvas.specs.Blocks.{frame_of, Fit};
 
-use crate::rows::put_rows;
+use crate::rows::{Rows, put_rows};
 use rect::Rect;
 
 // The canvas as a rectangle.
@@ -21,14 +21,18 @@ fn frame(width: u32, height: u32) -> Rect
     }
 }
 
-// Where the first pixel of `inner` stands among the bytes of `outer`, whose rows are `row` bytes long.
-fn first_byte(outer: Rect, inner: Rect, row: u32) -> usize
+// Where the rows of `inner` start among the bytes of `outer`, whose rows are `row` bytes long.
+fn rows_in(outer: Rect, inner: Rect, row: u32) -> Rows
     requires { (Span outer.left inner.left) × (Span outer.top inner.top) }
-    ensures { result ≡ byte_of outer row inner.left inner.top }
+    ensures { (result.first ≡ byte_of outer row inner.left inner.top) × (result.apart ≡ row) }
 {
     let down = rect::side(outer.top, inner.top) as usize;
     let across = rect::side(outer.left, inner.left) as usize;
-    down * (row as usize) + across
+    let apart = row as usize;
+    Rows {
+        first: down * apart + across,
+        apart,
+    }
 }
 
 // Each pixel that the canvas and r share takes its byte of the plane, whose rows are `row` bytes long.
@@ -37,13 +41,13 @@ pub(crate) fn put(width: u32, height: u32, canvas: &mut [u8], r: Rect, plane: &[
     ensures { canvas.new ≡ on_canvas width row r plane.now canvas.old }
 {
     let whole = frame(width, height);
-    let shared = rect::intersect(r, whole);
-    if rect::empty(shared) {
+    let shared = r.intersect(whole);
+    if shared.is_empty() {
         return;
     }
-    let at = first_byte(whole, shared, width);
-    let from = first_byte(r, shared, row);
-    let w = rect::width(shared) as usize;
-    let h = rect::height(shared) as usize;
-    put_rows(canvas, width as usize, at, plane, row as usize, from, w, h);
+    let on = rows_in(whole, shared, width);
+    let of = rows_in(r, shared, row);
+    let w = shared.width() as usize;
+    let h = shared.height() as usize;
+    put_rows(canvas, on, plane, of, w, h);
 }

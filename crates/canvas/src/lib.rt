@@ -8,13 +8,12 @@ mod numbers;
 mod placer;
 mod rows;
 
+pub use numbers::number;
 pub use placer::place;
 
-// What placing answers; `place_paper` gives each its number.
-#[derive(Clone, Copy)]
-pub enum PlaceAnswer {
-    // 0: each pixel that canvas and rectangle share has its byte
-    Placed,
+// Why a plane is not placed; `refusal` gives each its number.
+#[derive(Clone, Copy, Debug, PartialEq, Eq)]
+pub enum PlaceError {
     // 40: no such canvas
     BadCanvas,
     // 41: no such rectangle

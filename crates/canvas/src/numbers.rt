@@ -1,18 +1,27 @@
-// The number of an answer, for a caller that has no use for the enum.
+// The numbers of answers, for a caller that has no use for the enum.
 ghost use Rattle.std.specs.Prelude.{◌≡◌};
-ghost use Rattle.canvas.specs.Placing.{place_paper};
+ghost use Rattle.canvas.specs.Placing.{refusal, place_paper};
 
-use crate::PlaceAnswer;
+use crate::PlaceError;
 
-impl PlaceAnswer {
-    pub fn number(self) -> u32
-        ensures { result ≡ place_paper self }
-    {
-        match self {
-            PlaceAnswer::Placed => 0,
-            PlaceAnswer::BadCanvas => 40,
-            PlaceAnswer::BadRect => 41,
-            PlaceAnswer::BadPlane => 42,
+impl From<PlaceError> for u32 {
+    ghost from_gives = { λ error number. number ≡ refusal error };
+
+    fn from(error: PlaceError) -> u32 {
+        match error {
+            PlaceError::BadCanvas => 40,
+            PlaceError::BadRect => 41,
+            PlaceError::BadPlane => 42,
         }
+    }
+}
+
+// 0, or the refusal's number. Stays: (d) no `From`: `Result` and `u32` are both foreign, so no crate may write it.
+pub fn number(answer: Result<(), PlaceError>) -> u32
+    ensures { result ≡ place_paper answer }
+{
+    match answer {
+        Ok(()) => 0,
+        Err(error) => error.into(),
     }
 }

@@ -3,7 +3,7 @@ ghost use Rattle.std.specs.Prelude.{◌≡◌};
 ghost use Rattle.rect.specs.Rect.{Sized};
 ghost use Rattle.canvas.specs.Placing.{is_canvas, is_plane_of, place_result, placed};
 
-use crate::PlaceAnswer;
+use crate::PlaceError;
 use crate::clip::put;
 use limits::SIDE;
 use rect::Rect;
@@ -24,8 +24,7 @@ fn is_plane(r: Rect, row: u32, length: usize) -> bool
     requires { Sized r }
     ensures { result ≡ is_plane_of r row length }
 {
-    rect::is_form(rect::width(r), 8, true, row)
-        & (length == (row as usize) * (rect::height(r) as usize))
+    rect::is_form(r.width(), 8, true, row) & (length == (row as usize) * (r.height() as usize))
 }
 
 // Places an 8-bit plane whose rows are `row` bytes long. 40: no such canvas. 41: no such rectangle. 42: a row or a plane that is not the
@@ -37,18 +36,18 @@ pub fn place(
     r: Rect,
     plane: &[u8],
     row: u32,
-) -> PlaceAnswer
+) -> Result<(), PlaceError>
     ensures { place_result result canvas.new ≡ placed width height canvas.old r plane.now row }
 {
     if !is_canvas(width, height, canvas.len()) {
-        return PlaceAnswer::BadCanvas;
+        return Err(PlaceError::BadCanvas);
     }
-    if !rect::within(r) {
-        return PlaceAnswer::BadRect;
+    if !r.is_within() {
+        return Err(PlaceError::BadRect);
     }
     if !is_plane(r, row, plane.len()) {
-        return PlaceAnswer::BadPlane;
+        return Err(PlaceError::BadPlane);
     }
     put(width, height, canvas, r, plane, row);
-    PlaceAnswer::Placed
+    Ok(())
 }

@@ -1,98 +1,43 @@
 // Cases of a plane placed on a canvas. C: width, height, rectangle, row, canvas, plane.
-ghost use Rattle.std.specs.Prelude.{◌≡◌, ◌+◌, ◌≤◌, ◌<◌, length};
+ghost use Rattle.std.specs.Prelude.{◌≡◌, ◌≤◌, length, IfSome};
 
-use crate::fields::{ends, refuse};
+use crate::fields::{parts, refuse};
 use crate::hash;
-use printing::text;
 use rect::Rect;
 use std::io;
 use std::io::Write;
 
-fn copy(from: &[u8], to: &mut [u8]) {
-    let mut i = 0;
-    while i < from.len() && i < to.len() {
-        to[i] = from[i];
-        i += 1;
-    }
-}
+// Bytes of the largest canvas.
+const CANVAS: usize = 65600;
 
-fn place_on(
-    out: &mut impl Write,
-    width: u32,
-    height: u32,
-    r: Rect,
-    row: u32,
-    canvas: &[u8],
-    plane: &[u8],
-    pixels: &mut [u8],
-) -> io::Result<()> {
-    copy(canvas, pixels);
-    let a = canvas::place(width, height, pixels, r, plane, row);
-    text(out, b"C")?;
-    printing::number(out, a.number() as u64)?;
-    printing::number(out, hash::of_bytes(pixels) as u64)?;
-    text(out, b"\n")
-}
-
-fn pixels() -> [u8; 65600]
-    ensures { 65600 ≡ length result }
+fn place(out: &mut impl Write, numbers: &[u8], canvas: &[u8], plane: &[u8]) -> io::Result<()>
+    requires { 28 ≤ length numbers.now }
 {
-    [0; 65600]
+    let mut copied = [0; CANVAS];
+    let Some(pixels) = copied.get_mut(..canvas.len()) else {
+        return refuse(out, 'C');
+    };
+    pixels.copy_from_slice(canvas);
+    let width = endian::u32_at(numbers, 0);
+    let height = endian::u32_at(numbers, 4);
+    let r = Rect::decode(numbers, 8);
+    let a = canvas::place(width, height, pixels, r, plane, endian::u32_at(numbers, 24));
+    writeln!(out, "C {} {}", canvas::number(a), hash::of_bytes(pixels))
 }
 
-fn place(
-    out: &mut impl Write,
-    width: u32,
-    height: u32,
-    r: Rect,
-    row: u32,
-    canvas: &[u8],
-    plane: &[u8],
-) -> io::Result<()> {
-    let size = canvas.len();
-    if 65600 < size {
-        return refuse(out, b"C");
-    }
-    let mut copied = pixels();
-    place_on(
-        out,
-        width,
-        height,
-        r,
-        row,
-        canvas,
-        plane,
-        &mut copied[..size],
-    )
-}
-
-// The canvas goes from 32 to an end, and the plane's length stands there.
-fn parts(out: &mut impl Write, payload: &[u8], end: usize) -> io::Result<()>
-    requires { (32 ≤ end) × (end + 4 ≤ length payload.now) }
+// Two byte strings: the canvas, behind the numbers, and the plane.
+fn parted(payload: &[u8]) -> Option<(&[u8], &[u8], &[u8])>
+    ensures { IfSome result (λ parts. length parts.0.now ≡ 28) }
 {
-    place(
-        out,
-        endian::u32_at(payload, 0),
-        endian::u32_at(payload, 4),
-        Rect::decode(payload, 8),
-        endian::u32_at(payload, 24),
-        &payload[32..end],
-        &payload[end + 4..],
-    )
-}
-
-fn parted(out: &mut impl Write, payload: &[u8], end: usize) -> io::Result<()>
-    requires { (32 ≤ end) × (end < 4294967328) }
-{
-    if end + 4 <= payload.len() && ends(payload, end) {
-        return parts(out, payload, end);
-    }
-    refuse(out, b"C")
+    let (numbers, rest) = payload.split_at_checked(28)?;
+    let (said, rest) = rest.split_at_checked(4)?;
+    let (canvas, plane) = parts(rest, endian::u32_at(said, 0) as usize)?;
+    Some((numbers, canvas, plane))
 }
 
 pub fn canvas(out: &mut impl Write, payload: &[u8]) -> io::Result<()> {
-    if payload.len() < 32 {
-        return refuse(out, b"C");
+    match parted(payload) {
+        Some((numbers, canvas, plane)) => place(out, numbers, canvas, plane),
+        None => refuse(out, 'C'),
     }
-    parted(out, payload, 32 + endian::u32_at(payload, 28) as usize)
 }

@@ -1,6 +1,8 @@
 // The numbers of an image chunk, of a layer chunk and of a mask, and of a rectangle, as the lines have them: in file order but for a layer's
-// rectangles, which come last; a flag is 0 or 1. A name and blend ranges are bytes, and left to the caller.
+// rectangles, which come last; a flag is 0 or 1. A name and blend ranges are bytes, and shown by a hash.
+use crate::hash;
 use attributes::image_attributes::ImageChunk;
+use chunk::alpha_information::AlphaChunk;
 use chunk::area::Area;
 use chunk::layer_information::LayerChunk;
 use chunk::mask::Mask;
@@ -8,27 +10,8 @@ use rect::Rect;
 use std::io;
 use std::io::Write;
 
-fn byte(out: &mut impl Write, x: u8) -> io::Result<()> {
-    printing::number(out, x as u64)
-}
-
-fn word(out: &mut impl Write, x: u16) -> io::Result<()> {
-    printing::number(out, x as u64)
-}
-
-fn dword(out: &mut impl Write, x: u32) -> io::Result<()> {
-    printing::number(out, x as u64)
-}
-
-fn flag(out: &mut impl Write, b: bool) -> io::Result<()> {
-    printing::number(out, b as u64)
-}
-
 pub fn corners(out: &mut impl Write, r: Rect) -> io::Result<()> {
-    printing::signed(out, r.left)?;
-    printing::signed(out, r.top)?;
-    printing::signed(out, r.right)?;
-    printing::signed(out, r.bottom)
+    write!(out, " {} {} {} {}", r.left, r.top, r.right, r.bottom)
 }
 
 fn area(out: &mut impl Write, a: Area) -> io::Result<()> {
@@ -37,47 +20,53 @@ fn area(out: &mut impl Write, a: Area) -> io::Result<()> {
 }
 
 pub fn image(out: &mut impl Write, i: ImageChunk) -> io::Result<()> {
-    printing::signed(out, i.width)?;
-    printing::signed(out, i.height)?;
-    printing::number(out, i.bits)?;
-    byte(out, i.resolution.metric)?;
-    word(out, i.compression)?;
-    word(out, i.depth)?;
-    word(out, i.planes)?;
-    colours(out, i)
-}
-
-fn colours(out: &mut impl Write, i: ImageChunk) -> io::Result<()> {
-    dword(out, i.colours)?;
-    byte(out, i.grey)?;
-    dword(out, i.total)?;
-    printing::signed(out, i.active)?;
-    word(out, i.layers)
+    write!(
+        out,
+        " {} {} {} {}",
+        i.width, i.height, i.bits, i.resolution.metric
+    )?;
+    write!(out, " {} {} {}", i.compression, i.depth, i.planes)?;
+    write!(
+        out,
+        " {} {} {} {} {}",
+        i.colours, i.grey, i.total, i.active, i.layers
+    )
 }
 
 pub fn layer(out: &mut impl Write, l: LayerChunk) -> io::Result<()> {
-    byte(out, l.kind)?;
-    byte(out, l.opacity)?;
-    byte(out, l.blending)?;
+    write!(out, " {} {} {}", l.kind, l.opacity, l.blending)?;
     flags(out, l)?;
-    word(out, l.blends)?;
-    word(out, l.bitmaps)?;
-    word(out, l.channels)?;
+    write!(out, " {} {} {}", l.blends, l.bitmaps, l.channels)?;
     area(out, l.image)?;
-    area(out, l.mask)
-}
-
-pub fn mask(out: &mut impl Write, m: Mask) -> io::Result<()> {
-    word(out, m.bitmaps)?;
-    word(out, m.channels)?;
-    area(out, m.area)
+    area(out, l.mask)?;
+    write!(
+        out,
+        " {} {}",
+        hash::of_bytes(&l.name),
+        hash::of_bytes(&l.ranges)
+    )
 }
 
 fn flags(out: &mut impl Write, l: LayerChunk) -> io::Result<()> {
-    flag(out, l.visible)?;
-    flag(out, l.protected)?;
-    byte(out, l.group)?;
-    flag(out, l.linked)?;
-    flag(out, l.disabled)?;
-    flag(out, l.inverted)
+    let (visible, protected) = (u8::from(l.visible), u8::from(l.protected));
+    let (linked, disabled, inverted) = (
+        u8::from(l.linked),
+        u8::from(l.disabled),
+        u8::from(l.inverted),
+    );
+    write!(
+        out,
+        " {visible} {protected} {} {linked} {disabled} {inverted}",
+        l.group
+    )
+}
+
+pub fn mask(out: &mut impl Write, m: Mask) -> io::Result<()> {
+    write!(out, " {} {}", m.bitmaps, m.channels)?;
+    area(out, m.area)
+}
+
+pub fn alpha(out: &mut impl Write, a: AlphaChunk) -> io::Result<()> {
+    mask(out, a.mask)?;
+    write!(out, " {}", hash::of_bytes(&a.name))
 }

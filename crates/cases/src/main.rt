@@ -18,17 +18,11 @@ mod views;
 
 use printing::Held;
 use std::io;
-use std::io::{Read, Write};
 
 // Bytes of the longest payload: 300,000 blocks fit.
 const SIZE: usize = 4194304;
 
-// The array's type says its length, which is not counted then.
-fn lent(input: &mut impl Read, out: &mut impl Write, payload: &mut [u8; SIZE]) -> io::Result<()> {
-    reader::all(input, out, payload)
-}
-
 fn main(rt: HostRuntime) -> io::Result<()> {
     let mut payload = [0u8; SIZE];
-    lent(&mut rt.stdin(), &mut Held::new(&rt), &mut payload)
+    reader::all(&mut rt.stdin(), &mut Held::new(&rt), &mut payload)
 }

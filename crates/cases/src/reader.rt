@@ -28,48 +28,38 @@ fn answer(out: &mut impl Write, kind: u8, payload: &[u8]) -> io::Result<()> {
         b'H' => places::place(out, payload),
         b'W' => tables::write(out, payload),
         b'R' => tables::read(out, payload),
-        _ => refuse(out, b"?"),
+        _ => refuse(out, '?'),
     }
-}
-
-fn length_of(head: &[u8; 5]) -> usize {
-    endian::u32_at(head, 1) as usize
-}
-
-fn kind_of(head: &[u8; 5]) -> u8 {
-    head[0]
-}
-
-// The payload is the buffer's first bytes.
-fn tell(out: &mut impl Write, kind: u8, buffer: &[u8], length: usize) -> io::Result<()> {
-    if length <= buffer.len() {
-        answer(out, kind, &buffer[..length])?;
-    }
-    Ok(())
 }
 
 // Answers the next case, unless the input is at its end or the payload too long. Its line is written before another case is read.
 fn next(input: &mut impl Read, out: &mut impl Write, buffer: &mut [u8]) -> io::Result<bool> {
-    let mut head = [0u8; 5];
+    let mut head = [0; 5];
     if read_full(input, &mut head) < 5 {
         return Ok(false);
     }
-    let length = length_of(&head);
-    if buffer.len() < length {
+    let length = endian::u32_at(&head, 1) as usize;
+    let Some(payload) = buffer.get_mut(..length) else {
+        return Ok(false);
+    };
+    if read_full(input, payload) < length {
         return Ok(false);
     }
-    if read_full(input, &mut buffer[..length]) < length {
-        return Ok(false);
-    }
-    tell(out, kind_of(&head), buffer, length)?;
+    answer(out, head[0], payload)?;
     out.flush()?;
     Ok(true)
 }
 
-pub fn all(input: &mut impl Read, out: &mut impl Write, buffer: &mut [u8]) -> io::Result<()> {
-    let mut left = CASES;
-    while left > 0 && next(input, out, buffer)? {
-        left -= 1;
+// The buffer's type says its length, which is not counted then.
+pub fn all<const N: usize>(
+    input: &mut impl Read,
+    out: &mut impl Write,
+    buffer: &mut [u8; N],
+) -> io::Result<()> {
+    for _ in 0..CASES {
+        if !next(input, out, buffer)? {
+            return Ok(());
+        }
     }
     Ok(())
 }

@@ -1,20 +1,20 @@
 -- Any two results that a contract admits are equal.
 use Rattle.laws.specs.Outcomes.{OneResult}
 use Rattle.laws.proofs.OneOutcome.{one}
-use Rattle.chunk.proofs.alpha_bank_information.AlphaBankChunk.decode.Reads as alpha_bank
-use Rattle.chunk.proofs.alpha_information.AlphaChunk.decode.Reads as alpha
+use Rattle.chunk.proofs.alpha_bank_information.AlphaBankChunkFields.decode.Reads as alpha_bank
+use Rattle.chunk.proofs.alpha_information.AlphaChunkFields.decode.Reads as alpha
 use Rattle.chunk.proofs.alpha_information.AlphaChunk.judge.Reads as alpha-judge
 use Rattle.chunk.proofs.area.Area.decode.Reads as area
-use Rattle.chunk.proofs.channel_information.ChannelChunk.decode.Reads as channel
+use Rattle.chunk.proofs.channel_information.ChannelChunkFields.decode.Reads as channel
 use Rattle.chunk.proofs.channel_information.ChannelChunk.judge_codes.Reads as codes-judge
 use Rattle.chunk.proofs.channel_information.ChannelChunk.judge_plane.Reads as plane-judge
-use Rattle.chunk.proofs.color_palette.PaletteChunk.decode.Reads as palette
+use Rattle.chunk.proofs.color_palette.PaletteChunkFields.decode.Reads as palette
 use Rattle.chunk.proofs.color_palette.PaletteChunk.judge.Reads as palette-judge
-use Rattle.chunk.proofs.layer_information.LayerChunk.decode.Reads as layer
+use Rattle.chunk.proofs.layer_information.LayerChunkFields.decode.Reads as layer
 use Rattle.chunk.proofs.layer_information.LayerChunk.judge.Reads as layer-judge
 use Rattle.chunk.proofs.mask.Mask.decode.Reads as mask
 use Rattle.chunk.proofs.mask.Mask.judge.Reads as mask-judge
-use Rattle.chunk.proofs.selection_information.SelectionChunk.decode.Reads as selection
+use Rattle.chunk.proofs.selection_information.SelectionChunkFields.decode.Reads as selection
 use Rattle.chunk.proofs.selection_information.SelectionChunk.judge.Reads as selection-judge
 
 -- ### Decoding

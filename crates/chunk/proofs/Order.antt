@@ -11,6 +11,7 @@ use lib.Dec.{eqb, leb}
 use lib.IntN.{pos}
 use lib.Pow.{pow_pos}
 use lib.ListN.{length, take}
+use Rattle.std.specs.Prelude.{Some}
 use Rattle.laws.specs.Lists.{over}
 use Rattle.laws.proofs.Tests.{both, one_of}
 use Rattle.limits.specs.Limits.{side_limit}
@@ -21,7 +22,6 @@ use Rattle.rect.specs.declared.planes.Shape.{Shape}
 use Rattle.rect.specs.Rect.{rect_at, is_proper, side_of, is_saved}
 use Rattle.rect.specs.Rows.{row_of, is_plane}
 use Rattle.rect.proofs.Forms.{plane_is, plane_within}
-use Rattle.attributes.specs.declared.fault.Fault.TheVariants.{At}
 use Rattle.attributes.specs.Depth.{colour_channels}
 use Rattle.attributes.specs.Fault.{Field, field, in_order, Names}
 use Rattle.attributes.proofs.Named.{Alike, none, next_field, test_at, Mends, by_number, MendsEach, no_field, mend, names}
@@ -198,39 +198,39 @@ module _ (s : List ℕ) where
 -- ### The field that is named
 
 pub palette_names :
-    (depth : ℕ) (chunk : List ℕ) → palette_size ≤ length chunk → (offset : ℕ) → palette_fault depth (palette_of chunk) ≡ At offset
+    (depth : ℕ) (chunk : List ℕ) → palette_size ≤ length chunk → (offset : ℕ) → palette_fault depth (palette_of chunk) ≡ Some offset
     → Names (palette_rule depth) chunk offset
 unfolding palette_fault
 palette_names depth chunk long offset =
     names (palette_rule depth) (λ s. refl) (λ s t. palette_alike s t depth) chunk offset (palette_mends chunk depth long)
 
 pub layer_names :
-    (depth : ℕ) (chunk : List ℕ) → layer_size ≤ length chunk → (offset : ℕ) → layer_fault depth (layer_of chunk) ≡ At offset
+    (depth : ℕ) (chunk : List ℕ) → layer_size ≤ length chunk → (offset : ℕ) → layer_fault depth (layer_of chunk) ≡ Some offset
     → Names (layer_rule depth) chunk offset
 unfolding layer_fault
 layer_names depth chunk long offset = names (layer_rule depth) (λ s. refl) (λ s t. layer_alike s t depth) chunk offset (layer_mends chunk depth long)
 
-pub codes_names : (chunk : List ℕ) → channel_size ≤ length chunk → (offset : ℕ) → codes_fault (channel_of chunk) ≡ At offset → Names codes_rule chunk offset
+pub codes_names : (chunk : List ℕ) → channel_size ≤ length chunk → (offset : ℕ) → codes_fault (channel_of chunk) ≡ Some offset → Names codes_rule chunk offset
 unfolding codes_fault
 codes_names chunk long offset = names codes_rule (λ s. refl) codes_alike chunk offset (codes_mends chunk long)
 
 pub plane_names :
-    (shape : Shape) → Limited shape → (chunk : List ℕ) → channel_size ≤ length chunk → (offset : ℕ) → plane_fault shape (channel_of chunk) ≡ At offset
+    (shape : Shape) → Limited shape → (chunk : List ℕ) → channel_size ≤ length chunk → (offset : ℕ) → plane_fault shape (channel_of chunk) ≡ Some offset
     → Names (plane_rule shape) chunk offset
 unfolding plane_fault
 plane_names shape limited chunk long offset =
     names (plane_rule shape) (λ s. refl) (λ s t. plane_alike s t shape) chunk offset (plane_mends chunk shape limited long)
 
 module _ (from : ℕ) (chunk : List ℕ) (order : (s : List ℕ) → in_order (mask_rule from s) ≡ true) (long : from + mask_size ≤ length chunk) where
-  mask_names : (offset : ℕ) → mask_fault from (mask_at chunk from) ≡ At offset → Names (mask_rule from) chunk offset
+  mask_names : (offset : ℕ) → mask_fault from (mask_at chunk from) ≡ Some offset → Names (mask_rule from) chunk offset
   unfolding mask_fault
   mask_names offset = names (mask_rule from) order (λ s t. mask_alike s t from) chunk offset (mask_mends chunk from long)
 
 pub selection_names :
-    (chunk : List ℕ) → selection_size ≤ length chunk → (offset : ℕ) → selection_fault (selection_of chunk) ≡ At offset → Names selection_rule chunk offset
+    (chunk : List ℕ) → selection_size ≤ length chunk → (offset : ℕ) → selection_fault (selection_of chunk) ≡ Some offset → Names selection_rule chunk offset
 unfolding selection_of
 selection_names chunk long = mask_names 0 chunk (λ s. refl) (omega arith)
 
-pub alpha_names : (chunk : List ℕ) → alpha_size ≤ length chunk → (offset : ℕ) → alpha_fault (alpha_of chunk) ≡ At offset → Names alpha_rule chunk offset
+pub alpha_names : (chunk : List ℕ) → alpha_size ≤ length chunk → (offset : ℕ) → alpha_fault (alpha_of chunk) ≡ Some offset → Names alpha_rule chunk offset
 unfolding alpha_of
 alpha_names chunk long = mask_names 256 chunk (λ s. refl) long

@@ -4,11 +4,11 @@ use mathlib.Core.Bool.{true}
 use Prim.Native.Nat.{ℕ}
 use borrow.Author.Tests.{leb-true, eqb-true}
 use lib.Dec.{leb}
+use Rattle.std.specs.Prelude.{None}
 use Rattle.laws.proofs.Tests.{both}
 use Rattle.rect.specs.declared.planes.Shape.{Shape}
 use Rattle.rect.specs.Rows.{is_plane}
 use Rattle.rect.proofs.Tests.{proper_yes, saved_sized, saved_inside}
-use Rattle.attributes.specs.declared.fault.Fault.TheVariants.{None}
 use Rattle.attributes.proofs.Earliest.{kept}
 use Rattle.chunk.specs.declared.channel_information.ChannelChunk.{ChannelChunk}
 use Rattle.chunk.specs.declared.color_palette.PaletteChunk.{PaletteChunk}

@@ -1,7 +1,6 @@
 -- The alpha channel information chunk (document 000, section 5.11) and its rule (document 02, request vii).
-use Rattle.std.specs.Prelude.{ℕ, ◌+◌, List}
+use Rattle.std.specs.Prelude.{ℕ, ◌+◌, List, Option}
 use Rattle.laws.specs.Lists.{part}
-use Rattle.attributes.specs.declared.fault.Fault.{Fault}
 use Rattle.attributes.specs.Fault.{Field}
 use Rattle.chunk.specs.declared.alpha_information.AlphaChunk.{AlphaChunk}
 use Rattle.chunk.specs.Mask.{mask_size, mask_at, mask_fault, mask_rule}
@@ -18,7 +17,7 @@ abbrev pub alpha_at : List ℕ → ℕ → AlphaChunk
 alpha_at s at = alpha_of (part s at alpha_size)
 
 -- its rectangles and counts stand behind the name
-abbrev pub alpha_fault : AlphaChunk → Fault
+abbrev pub alpha_fault : AlphaChunk → Option ℕ
 alpha_fault c = mask_fault 256 c.mask
 
 -- the rule, by the chunk's bytes

@@ -1,10 +1,9 @@
 -- The channel information chunk (document 000, section 4.6) and its rule (document 01, "Channel, id 5"; document 02, request i: the plane length).
-use Rattle.std.specs.Prelude.{ℕ, List, [], ◌∷◌, leb}
+use Rattle.std.specs.Prelude.{ℕ, List, [], ◌∷◌, leb, Option}
 use Rattle.endian.specs.Number.{number_at}
 use Rattle.laws.specs.Lists.{part}
 use Rattle.rect.specs.declared.planes.Shape.{Shape}
 use Rattle.rect.specs.Rows.{is_plane}
-use Rattle.attributes.specs.declared.fault.Fault.{Fault}
 use Rattle.chunk.specs.declared.channel_information.ChannelChunk.{ChannelChunk}
 use Rattle.attributes.specs.Fault.{Field, field, earliest}
 
@@ -28,14 +27,14 @@ channel_at s at = channel_of (part s at channel_size)
 abbrev pub codes_fields : ChannelChunk → List Field
 codes_fields c = field 8 2 (leb c.bitmap 5) ∷ field 10 2 (leb c.channel 3) ∷ []
 
-unfoldable pub codes_fault : ChannelChunk → Fault
+unfoldable pub codes_fault : ChannelChunk → Option ℕ
 codes_fault c = earliest (codes_fields c)
 
 -- for planes of this shape
 abbrev pub plane_fields : Shape → ChannelChunk → List Field
 plane_fields shape c = field 4 4 (is_plane shape c.plane) ∷ []
 
-unfoldable pub plane_fault : Shape → ChannelChunk → Fault
+unfoldable pub plane_fault : Shape → ChannelChunk → Option ℕ
 plane_fault shape c = earliest (plane_fields shape c)
 
 -- the two rules, by the chunk's bytes

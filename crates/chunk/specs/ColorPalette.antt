@@ -1,8 +1,7 @@
 -- The color palette information chunk (document 000, section 4.5) and its rule (document 01, "Palette, id 2").
-use Rattle.std.specs.Prelude.{ℕ, ◌^◌, ◌&&◌, List, [], ◌∷◌, leb}
+use Rattle.std.specs.Prelude.{ℕ, ◌^◌, ◌&&◌, List, [], ◌∷◌, leb, Option}
 use Rattle.endian.specs.Number.{number_at}
 use Rattle.laws.specs.Lists.{part}
-use Rattle.attributes.specs.declared.fault.Fault.{Fault}
 use Rattle.chunk.specs.declared.color_palette.PaletteChunk.{PaletteChunk}
 use Rattle.attributes.specs.Fault.{Field, field, earliest}
 
@@ -21,7 +20,7 @@ palette_at s at = palette_of (part s at palette_size)
 abbrev pub palette_fields : ℕ → PaletteChunk → List Field
 palette_fields depth c = field 0 4 (leb 1 c.count && leb c.count (2 ^ depth)) ∷ []
 
-unfoldable pub palette_fault : ℕ → PaletteChunk → Fault
+unfoldable pub palette_fault : ℕ → PaletteChunk → Option ℕ
 palette_fault depth c = earliest (palette_fields depth c)
 
 -- the rule, by the chunk's bytes

@@ -1,9 +1,8 @@
 -- The layer information chunk (document 000, section 5.9) and the rule of its fields (document 01, "Layer, id 4").
-use Rattle.std.specs.Prelude.{ℕ, ◌+◌, Bool, ◌&&◌, not, List, [], ◌∷◌, eqb, leb}
+use Rattle.std.specs.Prelude.{ℕ, ◌+◌, Bool, ◌&&◌, not, List, [], ◌∷◌, eqb, leb, Option}
 use Rattle.endian.specs.Number.{number_at}
 use Rattle.laws.specs.Lists.{part}
 use Rattle.rect.specs.Rect.{is_proper, is_saved}
-use Rattle.attributes.specs.declared.fault.Fault.{Fault}
 use Rattle.chunk.specs.declared.layer_information.LayerChunk.{LayerChunk}
 use Rattle.chunk.specs.Area.{area_at}
 use Rattle.attributes.specs.Depth.{colour_channels}
@@ -54,7 +53,7 @@ layer_fields depth c =
     ∷ field 373 2 (eqb (c.channels + 1) (colour_channels depth + c.bitmaps))
     ∷ []
 
-unfoldable pub layer_fault : ℕ → LayerChunk → Fault
+unfoldable pub layer_fault : ℕ → LayerChunk → Option ℕ
 layer_fault depth c = earliest (layer_fields depth c)
 
 -- the rule, by the chunk's bytes

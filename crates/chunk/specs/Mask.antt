@@ -1,9 +1,8 @@
 -- Two rectangles and two counts, which the chunks of a selection and of an alpha channel have alike (document 000, sections 5.10 and 5.11), and
 -- their rule (document 02, request vii).
-use Rattle.std.specs.Prelude.{ℕ, ◌+◌, List, [], ◌∷◌, eqb}
+use Rattle.std.specs.Prelude.{ℕ, ◌+◌, List, [], ◌∷◌, eqb, Option}
 use Rattle.endian.specs.Number.{number_at}
 use Rattle.rect.specs.Rect.{is_proper, is_saved}
-use Rattle.attributes.specs.declared.fault.Fault.{Fault}
 use Rattle.attributes.specs.Fault.{Field, field, earliest}
 use Rattle.chunk.specs.declared.mask.Mask.{Mask}
 use Rattle.chunk.specs.Area.{area_at}
@@ -24,7 +23,7 @@ mask_fields from c =
     ∷ field (from + 34) 2 (eqb c.channels 1)
     ∷ []
 
-unfoldable pub mask_fault : ℕ → Mask → Fault
+unfoldable pub mask_fault : ℕ → Mask → Option ℕ
 mask_fault from c = earliest (mask_fields from c)
 
 -- the rule, by the chunk's bytes

@@ -1,7 +1,6 @@
 -- The selection information chunk (document 000, section 5.10) and its rule (document 02, request vii).
-use Rattle.std.specs.Prelude.{ℕ, List}
+use Rattle.std.specs.Prelude.{ℕ, List, Option}
 use Rattle.laws.specs.Lists.{part}
-use Rattle.attributes.specs.declared.fault.Fault.{Fault}
 use Rattle.attributes.specs.Fault.{Field}
 use Rattle.chunk.specs.declared.selection_information.SelectionChunk.{SelectionChunk}
 use Rattle.chunk.specs.Mask.{mask_size, mask_at, mask_fault, mask_rule}
@@ -17,7 +16,7 @@ selection_of s = record { mask = mask_at s 0 }
 abbrev pub selection_at : List ℕ → ℕ → SelectionChunk
 selection_at s at = selection_of (part s at selection_size)
 
-abbrev pub selection_fault : SelectionChunk → Fault
+abbrev pub selection_fault : SelectionChunk → Option ℕ
 selection_fault c = mask_fault 0 c.mask
 
 -- the rule, by the chunk's bytes

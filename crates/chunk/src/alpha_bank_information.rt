@@ -1,21 +1,24 @@
 // The alpha bank information chunk (document 000, section 5.11): how many alpha channels follow. Any number is permitted.
-ghost use Rattle.std.specs.Prelude.{◌≡◌, ◌+◌, ◌≤◌, length};
-ghost use Rattle.chunk.specs.AlphaBankInformation.{alpha_bank_at};
+ghost use Rattle.chunk.specs.AlphaBankInformation.{alpha_bank_size, alpha_bank_of};
+
+use headers::fields::Fields;
 
 #[derive(Clone, Copy)]
 pub struct AlphaBankChunk {
     pub count: u16,
 }
 
-impl AlphaBankChunk {
-    pub const SIZE: usize = 2;
+impl Fields for AlphaBankChunk {
+    const SIZE: usize = 2;
 
-    pub fn decode(file: &[u8], at: usize) -> AlphaBankChunk
-        requires { at + AlphaBankChunk.SIZE ≤ length file.now }
-        ensures { result ≡ alpha_bank_at file.now at }
-    {
+    ghost SIZE = { alpha_bank_size };
+
+    ghost fields_of = { alpha_bank_of };
+
+    #[tactic(auto, unfolding(crate::specs::AlphaBankInformation::alpha_bank_of))]
+    fn of(chunk: &[u8]) -> AlphaBankChunk {
         AlphaBankChunk {
-            count: endian::u16_at(&file[at..at + AlphaBankChunk::SIZE], 0),
+            count: endian::u16_at(chunk, 0),
         }
     }
 }

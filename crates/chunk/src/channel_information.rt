@@ -1,10 +1,12 @@
 // The channel information chunk (document 000, section 4.6).
-ghost use Rattle.std.specs.Prelude.{◌≡◌, ◌+◌, ◌≤◌, length};
-ghost use Rattle.chunk.specs.ChannelInformation.{channel_of, channel_at, codes_fault, plane_fault};
+ghost use Rattle.std.specs.Prelude.{◌≡◌, ◌≤◌};
+ghost use Rattle.chunk.specs.ChannelInformation.{channel_size, channel_of, codes_fault, plane_fault};
 
-use attributes::fault::Fault;
+use attributes::fault::unless;
+use headers::fields::Fields;
 use rect::Shape;
 
+// Stays: the two codes are numbers, as (d) a file is decoded first and judged then, and an enum would need a case for every other number.
 #[derive(Clone, Copy)]
 pub struct ChannelChunk {
     // The lengths of the content as it is stored, and of the plane that it decodes to.
@@ -14,21 +16,15 @@ pub struct ChannelChunk {
     pub channel: u16,
 }
 
-impl ChannelChunk {
-    pub const SIZE: usize = 12;
+impl Fields for ChannelChunk {
+    const SIZE: usize = 12;
 
-    pub fn decode(file: &[u8], at: usize) -> ChannelChunk
-        requires { at + ChannelChunk.SIZE ≤ length file.now }
-        ensures { result ≡ channel_at file.now at }
-    {
-        ChannelChunk::of(&file[at..at + ChannelChunk::SIZE])
-    }
+    ghost SIZE = { channel_size };
 
-    // The fields, at their offsets.
-    fn of(chunk: &[u8]) -> ChannelChunk
-        requires { ChannelChunk.SIZE ≤ length chunk.now }
-        ensures { result ≡ channel_of chunk.now }
-    {
+    ghost fields_of = { channel_of };
+
+    #[tactic(auto, unfolding(crate::specs::ChannelInformation::channel_of))]
+    fn of(chunk: &[u8]) -> ChannelChunk {
         ChannelChunk {
             stored: endian::u32_at(chunk, 0),
             plane: endian::u32_at(chunk, 4),
@@ -36,21 +32,23 @@ impl ChannelChunk {
             channel: endian::u16_at(chunk, 10),
         }
     }
+}
 
+impl ChannelChunk {
     // The codes come first; whether the channel is expected stands between them and its plane length.
-    pub fn judge_codes(self) -> Fault
+    #[tactic(auto, using(attributes::proofs::Earliest::behind_fault), unfolding(crate::specs::ChannelInformation::codes_fault))]
+    pub fn judge_codes(self) -> Option<u32>
         ensures { result ≡ codes_fault self }
     {
-        Fault::None
-            .unless(self.bitmap <= 5, 8)
-            .unless(self.channel <= 3, 10)
+        unless(self.bitmap <= 5, 8).or(unless(self.channel <= 3, 10))
     }
 
     // Among planes of this shape.
-    pub fn judge_plane(self, shape: Shape) -> Fault
+    #[tactic(auto, unfolding(crate::specs::ChannelInformation::plane_fault))]
+    pub fn judge_plane(self, shape: Shape) -> Option<u32>
         requires { shape.bits ≤ 8 }
         ensures { result ≡ plane_fault shape self }
     {
-        Fault::None.unless(shape.permits(self.plane), 4)
+        unless(shape.permits(self.plane), 4)
     }
 }

@@ -1,17 +1,17 @@
 // The layer information chunk (document 000, section 5.9).
-ghost use Rattle.std.specs.Prelude.{◌≡◌, ◌+◌, ◌≤◌, eqb, length};
-ghost use Rattle.laws.specs.Lists.{part};
+ghost use Rattle.std.specs.Prelude.{◌≡◌, ◌+◌, ◌≤◌, ◌&&◌, eqb, leb, length};
 ghost use Rattle.attributes.specs.Depth.{colour_channels};
-ghost use Rattle.chunk.specs.LayerInformation.{flag_at, layer_of, layer_at, layer_fault};
+ghost use Rattle.chunk.specs.LayerInformation.{layer_size, flag_at, layer_of, layer_fault};
 
 use crate::area::Area;
-use crate::name::name_at;
 use attributes::depth;
-use attributes::fault::Fault;
-use headers::array;
+use attributes::fault::unless;
+use headers::fields::Fields;
 
+// Stays: the layer type and the blend mode are numbers, and the number of valid ranges stands beside them, as (a) C reads them in this struct
+// (psp.h).
 #[repr(C)]
-#[derive(Clone, Copy)]
+#[derive(Clone, Copy, Default)]
 pub struct LayerChunk {
     pub name: [u8; 256],
     // The layer type.
@@ -34,23 +34,17 @@ pub struct LayerChunk {
     pub channels: u16,
 }
 
-impl LayerChunk {
-    pub const SIZE: usize = 375;
+impl Fields for LayerChunk {
+    const SIZE: usize = 375;
 
-    pub fn decode(file: &[u8], at: usize) -> LayerChunk
-        requires { at + LayerChunk.SIZE ≤ length file.now }
-        ensures { result ≡ layer_at file.now at }
-    {
-        LayerChunk::of(&file[at..at + LayerChunk::SIZE])
-    }
+    ghost SIZE = { layer_size };
 
-    // The fields, at their offsets.
-    fn of(chunk: &[u8]) -> LayerChunk
-        requires { LayerChunk.SIZE ≤ length chunk.now }
-        ensures { result ≡ layer_of chunk.now }
-    {
+    ghost fields_of = { layer_of };
+
+    #[tactic(auto, unfolding(crate::specs::LayerInformation::layer_of))]
+    fn of(chunk: &[u8]) -> LayerChunk {
         LayerChunk {
-            name: name_at(chunk, 0),
+            name: endian::bytes_at(chunk, 0),
             kind: endian::u8_at(chunk, 256),
             image: Area::decode(chunk, 257),
             opacity: endian::u8_at(chunk, 289),
@@ -63,35 +57,43 @@ impl LayerChunk {
             disabled: flag_at(chunk, 327),
             inverted: flag_at(chunk, 328),
             blends: endian::u16_at(chunk, 329),
-            ranges: ranges_at(chunk, 331),
+            ranges: endian::bytes_at(chunk, 331),
             bitmaps: endian::u16_at(chunk, 371),
             channels: endian::u16_at(chunk, 373),
         }
     }
+}
 
+impl LayerChunk {
     // The earliest field that is not permitted in a layer of an image of this depth. A rule between two fields counts at the later one.
-    pub fn judge(self, depth: u16) -> Fault
+    #[tactic(auto, using(attributes::proofs::Earliest::behind_fault), unfolding(crate::specs::LayerInformation::layer_fault))]
+    pub fn judge(self, depth: u16) -> Option<u32>
         ensures { result ≡ layer_fault depth self }
     {
         let image = self.image;
         let mask = self.mask;
-        Fault::None
-            .unless(self.kind <= 1, 256)
-            .unless(rect::proper(image.border), 257)
-            .unless(rect::saved(image.saved, image.border), 273)
-            .unless(rect::proper(mask.border), 294)
-            .unless(rect::saved(mask.saved, mask.border), 310)
-            .unless(self.blends <= 5, 329)
-            .unless((1 <= self.bitmaps) & (self.bitmaps <= 3), 371)
-            .unless(channels_agree(self.channels, self.bitmaps, depth), 373)
+        unless(self.kind <= 1, 256)
+            .or(unless(image.border.is_proper(), 257))
+            .or(unless(image.saved.is_saved(image.border), 273))
+            .or(unless(mask.border.is_proper(), 294))
+            .or(unless(mask.saved.is_saved(mask.border), 310))
+            .or(unless(self.blends <= 5, 329))
+            .or(unless(self.bitmaps_permitted(), 371))
+            .or(unless(self.channels_agree(depth), 373))
     }
-}
 
-// Channels are c + b - 1, where c is the depth's.
-fn channels_agree(channels: u16, bitmaps: u16, depth: u16) -> bool
-    ensures { result ≡ eqb (channels + 1) (colour_channels depth + bitmaps) }
-{
-    channels as u32 + 1 == depth::channels(depth) + bitmaps as u32
+    fn bitmaps_permitted(&self) -> bool
+        ensures { result ≡ (leb 1 self.now.bitmaps && leb self.now.bitmaps 3) }
+    {
+        matches!(self.bitmaps, 1..=3)
+    }
+
+    // Channels are c + b - 1, where c is the depth's.
+    fn channels_agree(&self, depth: u16) -> bool
+        ensures { result ≡ eqb (self.now.channels + 1) (colour_channels depth + self.now.bitmaps) }
+    {
+        u32::from(self.channels) + 1 == depth::channels(depth) + u32::from(self.bitmaps)
+    }
 }
 
 // A flag is off (zero) or on.
@@ -100,13 +102,4 @@ fn flag_at(file: &[u8], at: usize) -> bool
     ensures { result ≡ flag_at file.now at }
 {
     endian::u8_at(file, at) != 0
-}
-
-fn ranges_at(file: &[u8], at: usize) -> [u8; 40]
-    requires { at + 40 ≤ length file.now }
-    ensures { result ≡ part file.now at 40 }
-{
-    let mut ranges = [0u8; 40];
-    array::fill(&mut ranges, file, at);
-    ranges
 }

@@ -10,5 +10,4 @@ pub mod channel_information;
 pub mod color_palette;
 pub mod layer_information;
 pub mod mask;
-mod name;
 pub mod selection_information;

@@ -4,10 +4,10 @@ ghost use Rattle.std.specs.Prelude.{◌≡◌, ◌+◌, ◌≤◌, length};
 ghost use Rattle.chunk.specs.Mask.{mask_at, mask_fault};
 
 use crate::area::Area;
-use attributes::fault::Fault;
+use attributes::fault::unless;
 
 #[repr(C)]
-#[derive(Clone, Copy)]
+#[derive(Clone, Copy, Default)]
 pub struct Mask {
     pub area: Area,
     pub bitmaps: u16,
@@ -17,6 +17,8 @@ pub struct Mask {
 impl Mask {
     pub const SIZE: usize = Area::SIZE + 4;
 
+    // Stays: with an offset, as (d) it is a part of a chunk, whose definition tells each place from the chunk's beginning.
+    #[tactic(auto, unfolding(crate::specs::Mask::mask_at))]
     pub fn decode(file: &[u8], at: usize) -> Mask
         requires { at + Mask.SIZE ≤ length file.now }
         ensures { result ≡ mask_at file.now at }
@@ -29,15 +31,15 @@ impl Mask {
     }
 
     // The earliest field that is not permitted, in a chunk that has these from an offset on.
-    pub fn judge(self, from: u32) -> Fault
+    #[tactic(auto, using(attributes::proofs::Earliest::behind_fault), unfolding(crate::specs::Mask::mask_fault))]
+    pub fn judge(self, from: u32) -> Option<u32>
         requires { from ≤ 256 }
         ensures { result ≡ mask_fault from self }
     {
         let area = self.area;
-        Fault::None
-            .unless(rect::proper(area.border), from)
-            .unless(rect::saved(area.saved, area.border), from + 16)
-            .unless(self.bitmaps == 1, from + 32)
-            .unless(self.channels == 1, from + 34)
+        unless(area.border.is_proper(), from)
+            .or(unless(area.saved.is_saved(area.border), from + 16))
+            .or(unless(self.bitmaps == 1, from + 32))
+            .or(unless(self.channels == 1, from + 34))
     }
 }

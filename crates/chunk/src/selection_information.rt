@@ -1,29 +1,33 @@
 // The selection information chunk (document 000, section 5.10).
-ghost use Rattle.std.specs.Prelude.{◌≡◌, ◌+◌, ◌≤◌, length};
-ghost use Rattle.chunk.specs.SelectionInformation.{selection_at, selection_fault};
+ghost use Rattle.std.specs.Prelude.{◌≡◌};
+ghost use Rattle.chunk.specs.SelectionInformation.{selection_size, selection_of, selection_fault};
 
 use crate::mask::Mask;
-use attributes::fault::Fault;
+use headers::fields::Fields;
 
 #[repr(C)]
-#[derive(Clone, Copy)]
+#[derive(Clone, Copy, Default)]
 pub struct SelectionChunk {
     pub mask: Mask,
 }
 
-impl SelectionChunk {
-    pub const SIZE: usize = Mask::SIZE;
+impl Fields for SelectionChunk {
+    const SIZE: usize = Mask::SIZE;
 
-    pub fn decode(file: &[u8], at: usize) -> SelectionChunk
-        requires { at + SelectionChunk.SIZE ≤ length file.now }
-        ensures { result ≡ selection_at file.now at }
-    {
+    ghost SIZE = { selection_size };
+
+    ghost fields_of = { selection_of };
+
+    #[tactic(auto, unfolding(crate::specs::SelectionInformation::selection_of))]
+    fn of(chunk: &[u8]) -> SelectionChunk {
         SelectionChunk {
-            mask: Mask::decode(&file[at..at + SelectionChunk::SIZE], 0),
+            mask: Mask::decode(chunk, 0),
         }
     }
+}
 
-    pub fn judge(self) -> Fault
+impl SelectionChunk {
+    pub fn judge(self) -> Option<u32>
         ensures { result ≡ selection_fault self }
     {
         self.mask.judge(0)

@@ -1,11 +1,12 @@
 -- Numbers with the greatest byte first: their laws are those of the same bytes from the last to the first.
 use mathlib.Core.Path.{◌≡◌, sym, ap, ap₂, subst, ◌∙◌}
-use mathlib.Core.List.{List, ◌++◌, reverse, reverse-append, reverse-reverse}
-use Prim.Native.Nat.{ℕ, ◌+◌, ◌*◌, ◌^◌, ◌≤◌, ◌<◌}
+use mathlib.Core.List.{List, [], ◌∷◌, ◌++◌, reverse, reverse-append, reverse-reverse}
+use Prim.Native.Nat.{ℕ, ◌+◌, ◌-◌, ◌*◌, ◌/◌, ◌%◌, ◌^◌, ◌≤◌, ◌<◌}
 use native.Mathlib.Nat.{add_comm, zero-add}
 use native.Mathlib.Omega.{arith}
-use lib.ListN.{length, get_or, length-reverse}
-use lib.Seq.{take_at, drop_at, drop-cons}
+use lib.ListN.{length, length-reverse}
+use lib.Seq.{take_at, drop_at}
+use Rattle.std.specs.Int.{w32, from_be_bytes, to_be_bytes}
 use Rattle.laws.specs.All.{All}
 use Rattle.laws.specs.Lists.{part, over}
 use Rattle.laws.proofs.All.{all_part, all_reverse}
@@ -13,17 +14,41 @@ use Rattle.laws.proofs.Over.{over_over}
 use Rattle.laws.proofs.Part.{part_length, part_join}
 use Rattle.endian.specs.Number.{le, number_at, bytes_of, big_at, big_bytes_of, Reads, ReadsBig}
 use Rattle.endian.proofs.Front.{le_front}
-use Rattle.endian.proofs.Width.{one, joined}
+use Rattle.endian.proofs.Width.{joined}
 use Rattle.endian.proofs.Bytes.{bytes_length, bytes_number, bytes_joined, number_bytes, bytes_small}
 
--- ### One law over the width, of reading and of writing
+-- ### As the library has them, of four bytes
 
--- of one byte there is one order
-pub big_one : (s : List ℕ) (at : ℕ) {r : ℕ} → at < length s → Reads 1 s at r → ReadsBig 1 s at r
-unfolding big_at part le
-big_one s at h p =
-    let same : get_or s at 0 ≡ le 1 (reverse (part s at 1)) = rw (drop-cons s at 0) (omega arith) in
-    record { value = p.value ∙ sym (one s at h) ∙ same; range = p.range }
+four : (xs : List ℕ) → length xs ≡ 4 → from_be_bytes w32 xs ≡ le 4 (reverse xs)
+unfolding le
+four (a ∷ b ∷ c ∷ d ∷ []) e = omega arith
+four [] e = absurd (omega arith)
+four (a ∷ []) e = absurd (omega arith)
+four (a ∷ b ∷ []) e = absurd (omega arith)
+four (a ∷ b ∷ c ∷ []) e = absurd (omega arith)
+four (a ∷ b ∷ c ∷ d ∷ x ∷ xs) e = absurd (omega arith)
+
+-- what it makes of the bytes of a place
+pub reads_be :
+    (s xs : List ℕ) (at : ℕ) {r : ℕ} → at + 4 ≤ length s → r < 2 ^ 32 → xs ≡ part s at 4 → r ≡ from_be_bytes w32 xs → ReadsBig 4 s at r
+unfolding big_at
+reads_be s xs at h small taken is = record {
+  value = is ∙ four xs (ap length taken ∙ part_length s at 4 h) ∙ ap (λ (l : List ℕ). le 4 (reverse l)) taken;
+  range = small;
+}
+
+-- and the bytes that it makes of a number
+pub four_of : (n : ℕ) → to_be_bytes w32 n ≡ big_bytes_of 4 n
+unfolding big_bytes_of bytes_of
+four_of n =
+    let first : n / 16777216 % 256 ≡ n / 256 / 256 / 256 - 256 * (n / 256 / 256 / 256 / 256) = omega arith in
+    let second : n / 65536 % 256 ≡ n / 256 / 256 - 256 * (n / 256 / 256 / 256) = omega arith in
+    let third : n / 256 % 256 ≡ n / 256 - 256 * (n / 256 / 256) = omega arith in
+    let last : n % 256 ≡ n - 256 * (n / 256) = omega arith in
+    ap₂ (λ (a b : ℕ). a ∷ b ∷ n / 256 % 256 ∷ n % 256 ∷ []) first second
+    ∙ ap₂ (λ (c d : ℕ). (n / 256 / 256 / 256 - 256 * (n / 256 / 256 / 256 / 256)) ∷ (n / 256 / 256 - 256 * (n / 256 / 256 / 256)) ∷ c ∷ d ∷ []) third last
+
+-- ### One law over the width, of reading and of writing
 
 -- what two readers answer, one behind the other, is what a reader of both answers
 pub big_joined :

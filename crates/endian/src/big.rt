@@ -3,34 +3,20 @@ ghost use Rattle.std.specs.Prelude.{◌≡◌, ◌+◌, ◌≤◌, length};
 ghost use Rattle.laws.specs.Lists.{over};
 ghost use Rattle.endian.specs.Number.{ReadsBig, big_bytes_of};
 
-use crate::u8_at;
+use crate::bytes_at;
 
-fn u16_at(s: &[u8], at: usize) -> u16
-    requires { at + 2 ≤ length s.now }
-    ensures { ReadsBig 2 s.now at result }
-{
-    u8_at(s, at + 1) as u16 + 256 * (u8_at(s, at) as u16)
-}
-
+#[tactic(auto, using(crate::proofs::Turned::reads_be))]
 pub fn u32_at(s: &[u8], at: usize) -> u32
     requires { at + 4 ≤ length s.now }
     ensures { ReadsBig 4 s.now at result }
 {
-    u16_at(s, at + 2) as u32 + 65536 * (u16_at(s, at) as u32)
+    u32::from_be_bytes(bytes_at(s, at))
 }
 
-fn put_u16(dest: &mut [u8], at: usize, n: u16)
-    requires { at + 2 ≤ length dest.old }
-    ensures { dest.new ≡ over dest.old at (big_bytes_of 2 n) }
-{
-    dest[at] = (n / 256) as u8;
-    dest[at + 1] = (n % 256) as u8;
-}
-
+#[tactic(auto, using(laws::proofs::Part::written, crate::proofs::Turned::four_of))]
 pub fn put_u32(dest: &mut [u8], at: usize, n: u32)
     requires { at + 4 ≤ length dest.old }
     ensures { dest.new ≡ over dest.old at (big_bytes_of 4 n) }
 {
-    put_u16(dest, at, (n / 65536) as u16);
-    put_u16(dest, at + 2, (n % 65536) as u16);
+    dest[at..at + 4].copy_from_slice(&n.to_be_bytes());
 }

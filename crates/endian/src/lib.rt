@@ -4,13 +4,17 @@
 #![tactic(auto)]
 
 pub mod big;
+mod taken;
 
 ghost use Rattle.std.specs.Prelude.{◌≡◌, ◌+◌, ◌≤◌, length};
 ghost use Rattle.std.specs.Float.{binary64};
 ghost use Rattle.std.specs.Float.Ieee.{of_bits};
-ghost use Rattle.endian.specs.Number.{Reads, signed, signed_at, double_at};
+ghost use Rattle.endian.specs.Number.{Reads, signed_at, double_at};
+
+pub use taken::bytes_at;
 
 // BYTE
+#[tactic(auto, using(crate::proofs::Width::one))]
 pub fn u8_at(s: &[u8], at: usize) -> u8
     requires { at + 1 ≤ length s.now }
     ensures { Reads 1 s.now at result }
@@ -19,38 +23,30 @@ pub fn u8_at(s: &[u8], at: usize) -> u8
 }
 
 // WORD
+#[tactic(auto, using(crate::proofs::Width::reads_le))]
 pub fn u16_at(s: &[u8], at: usize) -> u16
     requires { at + 2 ≤ length s.now }
     ensures { Reads 2 s.now at result }
 {
-    u8_at(s, at) as u16 + 256 * (u8_at(s, at + 1) as u16)
+    u16::from_le_bytes(bytes_at(s, at))
 }
 
 // DWORD
+#[tactic(auto, using(crate::proofs::Width::reads_le))]
 pub fn u32_at(s: &[u8], at: usize) -> u32
     requires { at + 4 ≤ length s.now }
     ensures { Reads 4 s.now at result }
 {
-    u16_at(s, at) as u32 + 65536 * (u16_at(s, at + 2) as u32)
+    u32::from_le_bytes(bytes_at(s, at))
 }
 
 // The bits of a double: a NaN's travel here, and not in an f64.
+#[tactic(auto, using(crate::proofs::Width::reads_le))]
 pub fn u64_at(s: &[u8], at: usize) -> u64
     requires { at + 8 ≤ length s.now }
     ensures { Reads 8 s.now at result }
 {
-    u32_at(s, at) as u64 + 4294967296 * (u32_at(s, at + 4) as u64)
-}
-
-// The signed reading of 32 bits. `n as i32` is defined only below 2^31.
-fn signed_of(n: u32) -> i32
-    ensures { result ≡ signed n }
-{
-    if n < 2147483648 {
-        return n as i32;
-    }
-    let m = (4294967295 - n) as i32;
-    -1 - m
+    u64::from_le_bytes(bytes_at(s, at))
 }
 
 // long
@@ -58,7 +54,7 @@ pub fn i32_at(s: &[u8], at: usize) -> i32
     requires { at + 4 ≤ length s.now }
     ensures { result ≡ signed_at s.now at }
 {
-    signed_of(u32_at(s, at))
+    i32::from_le_bytes(bytes_at(s, at))
 }
 
 // The double of 64 bits, at every pattern: `from_bits` is not defined at a NaN's, so these are told apart first.
@@ -66,7 +62,7 @@ pub fn double_of(bits: u64) -> f64
     ensures { result ≡ of_bits binary64 bits }
 {
     if 9218868437227405312 < bits % 9223372036854775808 {
-        return 0.0 / 0.0;
+        return f64::NAN;
     }
     f64::from_bits(bits)
 }

@@ -48,6 +48,7 @@ pub struct Entry {
 
 impl Code {
     // No channel.
+    // Stays: (d) a constant and no `Default`: other constants are made of it, and a constant's value calls no function.
     pub const NONE: Code = Code {
         bitmap: 0,
         channel: 0,
@@ -56,6 +57,7 @@ impl Code {
 
 impl Content {
     // No content.
+    // Stays: (d) a constant and no `Default`, as `Code::NONE`.
     pub const NONE: Content = Content {
         start: 0,
         stored: 0,
@@ -67,6 +69,7 @@ impl Entry {
     pub const SIZE: usize = 14;
 
     // No entry.
+    // Stays: (d) a constant and no `Default`, as `Code::NONE`.
     pub const NONE: Entry = Entry {
         block: Block {
             id: 0,
@@ -86,30 +89,74 @@ impl Entry {
         requires { at + size ≤ length table.now }
         ensures { result ≡ entry_at table.now at }
     {
+        let mut numbers = [0; Entry::SIZE];
+        numbers.copy_from_slice(&table[at..at + Entry::SIZE]);
+        Entry::from(numbers)
+    }
+}
+
+// The numbers in the table's order.
+impl From<[u32; Entry::SIZE]> for Entry {
+    ghost from_gives = { λ numbers e. e ≡ entry_at numbers 0 };
+
+    fn from(numbers: [u32; Entry::SIZE]) -> Entry {
+        let [
+            id,
+            skipped,
+            level,
+            place,
+            owned,
+            layer,
+            bitmap,
+            channel,
+            start,
+            stored,
+            width,
+            height,
+            plane,
+            row,
+        ] = numbers;
         Entry {
             block: Block {
-                id: table[at],
-                skipped: table[at + 1],
-                level: table[at + 2],
-                place: table[at + 3],
-                owned: table[at + 4],
+                id,
+                skipped,
+                level,
+                place,
+                owned,
             },
-            layer: table[at + 5],
-            code: Code {
-                bitmap: table[at + 6],
-                channel: table[at + 7],
-            },
-            content: Content {
-                start: table[at + 8],
-                stored: table[at + 9],
-            },
+            layer,
+            code: Code { bitmap, channel },
+            content: Content { start, stored },
             size: Size {
-                width: table[at + 10],
-                height: table[at + 11],
-                plane: table[at + 12],
-                row: table[at + 13],
+                width,
+                height,
+                plane,
+                row,
             },
         }
+    }
+}
+
+impl From<Entry> for [u32; Entry::SIZE] {
+    ghost from_gives = { λ e numbers. numbers ≡ numbers_of e };
+
+    fn from(e: Entry) -> [u32; Entry::SIZE] {
+        [
+            e.block.id,
+            e.block.skipped,
+            e.block.level,
+            e.block.place,
+            e.block.owned,
+            e.layer,
+            e.code.bitmap,
+            e.code.channel,
+            e.content.start,
+            e.content.stored,
+            e.size.width,
+            e.size.height,
+            e.size.plane,
+            e.size.row,
+        ]
     }
 }
 
@@ -118,31 +165,15 @@ pub fn put(table: &mut [u32], used: usize, e: Entry)
     requires { used + size ≤ length table.old }
     ensures { table.new ≡ over table.old used (numbers_of e) }
 {
-    let numbers = [
-        e.block.id,
-        e.block.skipped,
-        e.block.level,
-        e.block.place,
-        e.block.owned,
-        e.layer,
-        e.code.bitmap,
-        e.code.channel,
-        e.content.start,
-        e.content.stored,
-        e.size.width,
-        e.size.height,
-        e.size.plane,
-        e.size.row,
-    ];
-    let mut i = 0;
-    while i < Entry::SIZE {
-        let at = used + i;
-        table[at] = numbers[i];
-        i += 1;
+    let numbers: [u32; Entry::SIZE] = e.into();
+    // Stays: (b) `copy_from_slice` tests the two for an overlap and brings the numbers through the stack, where this loop is stores alone.
+    for (i, number) in numbers.iter().enumerate() {
+        table[used + i] = *number;
     }
 }
 
 // Stores an entry as the table's index-th, where the table reaches; elsewhere nothing.
+#[tactic(auto, unfolding(crate::specs::Entry::stored, laws::specs::Choice::pick))]
 pub fn store(table: &mut [u32], index: usize, e: Entry)
     ensures { table.new ≡ stored table.old index e }
 {

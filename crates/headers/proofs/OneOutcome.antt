@@ -1,9 +1,9 @@
 -- Any two results that a contract admits are equal.
 use Rattle.laws.specs.Outcomes.{OneResult}
 use Rattle.laws.proofs.OneOutcome.{one}
-use Rattle.headers.proofs.block_header.BlockHeader.decode.Reads as block-header
+use Rattle.headers.proofs.block_header.BlockHeaderFields.decode.Reads as block-header
 use Rattle.headers.proofs.block_header.BlockHeader.marked.Reads as marked
-use Rattle.headers.proofs.file_header.FileHeader.decode.Reads as file-header
+use Rattle.headers.proofs.file_header.FileHeaderFields.decode.Reads as file-header
 use Rattle.headers.proofs.file_header.FileHeader.signed.Reads as signed
 use Rattle.headers.proofs.file_header.FileHeader.version_3_0.Reads as version
 

@@ -1,14 +1,11 @@
--- Lists that are the same byte for byte: what the test says, and how a loop over the places finds it.
+-- Lists that are the same byte for byte: what the test says, and that `==` finds it.
 use mathlib.Core.Path.{◌≡◌, refl, ap, ap₂, ◌∙◌}
-use mathlib.Core.Bool.{Bool, true, false, ◌&&◌}
+use mathlib.Core.Bool.{Bool, true, ◌&&◌}
 use mathlib.Core.List.{List, [], ◌∷◌}
-use Prim.Native.Nat.{ℕ, suc, ◌+◌, ◌<◌, ◌≤◌}
-use native.Mathlib.Numerals.{add-one}
-use native.Mathlib.Omega.{arith}
-use borrow.Author.Tests.{eqb-true, eq-eqb, ne_eqb}
+use Prim.Native.Nat.{ℕ}
+use borrow.Author.Tests.{eqb-true, eq-eqb}
 use lib.Dec.{eqb}
-use lib.ListN.{length, drop, get_or, drop_of_length-le}
-use lib.Seq.{drop-cons}
+use lib.Pointwise.{pointwise}
 use Rattle.laws.proofs.Tests.{never, both}
 use Rattle.headers.specs.declared.file_header.FileHeader.{FileHeader}
 use Rattle.headers.specs.FileHeader.{is_same, is_signed, signature}
@@ -34,39 +31,10 @@ signed_yes h = same_yes h.signature signature
 pub signed_is : (h : FileHeader) → h.signature ≡ signature → is_signed h ≡ true
 signed_is h e = ap (λ (s : List ℕ). is_same s signature) e ∙ same_is signature
 
-module _ (a b : List ℕ) where
-  pub longer : (length a ≡ length b → ⊥) → is_same a b ≡ false
-  longer n = go (is_same a b) refl
-    where
-      go : (t : Bool) → is_same a b ≡ t → t ≡ false
-      go true e = absurd (n (ap length (same_yes a b e)))
-      go false e = refl
-
-  -- equal before a place: what is left decides
-  pub record Equal (i : ℕ) : Type 0 where
-    pub inside : i ≤ length a
-    pub long : length b ≡ length a
-    pub rest : is_same a b ≡ is_same (drop i a) (drop i b)
-
-  pub equal_first : length b ≡ length a → Equal 0
-  equal_first e = record { inside = omega arith; long = e; rest = refl }
-
-  module _ (i : ℕ) (q : Equal i) (h : i < length a) where
-    split : is_same a b ≡ (eqb (get_or a i 0) (get_or b i 0) && is_same (drop (suc i) a) (drop (suc i) b))
-    unfolding is_same
-    split = q.rest ∙ ap₂ is_same (drop-cons a i 0 h) (drop-cons b i 0 (omega (arith, q.long)))
-
-    pub equal_next : get_or a i 0 ≡ get_or b i 0 → Equal (i + 1)
-    equal_next e = record {
-      inside = omega arith;
-      long = q.long;
-      rest = rw add-one (split ∙ ap (λ t. t && is_same (drop (suc i) a) (drop (suc i) b)) (eq-eqb (get_or a i 0) (get_or b i 0) e));
-    }
-
-    pub equal_not : (get_or a i 0 ≡ get_or b i 0 → ⊥) → is_same a b ≡ false
-    equal_not n = split ∙ ap (λ t. t && is_same (drop (suc i) a) (drop (suc i) b)) (ne_eqb (get_or a i 0) (get_or b i 0) n)
-
-  pub equal_last : (i : ℕ) → Equal i → length a ≤ i → is_same a b ≡ true
-  unfolding is_same
-  equal_last i q h =
-      q.rest ∙ ap₂ is_same (drop_of_length-le a {i = i} h) (drop_of_length-le b {i = i} (omega (arith, q.long)))
+-- what `==` of two arrays computes
+pub same_bytes : (a b : List ℕ) → pointwise eqb a b ≡ is_same a b
+unfolding is_same
+same_bytes [] [] = refl
+same_bytes [] (y ∷ b) = refl
+same_bytes (x ∷ a) [] = refl
+same_bytes (x ∷ a) (y ∷ b) = ap (λ (t : Bool). eqb x y && t) (same_bytes a b)

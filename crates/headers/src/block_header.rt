@@ -1,6 +1,8 @@
 // The block header (document 000, section 4.4).
-ghost use Rattle.std.specs.Prelude.{◌≡◌, ◌+◌, ◌≤◌, length};
-ghost use Rattle.headers.specs.BlockHeader.{block_header_of, block_header_at, is_marked};
+ghost use Rattle.std.specs.Prelude.{◌≡◌};
+ghost use Rattle.headers.specs.BlockHeader.{block_header_size, block_header_of, is_marked};
+
+use crate::fields::Fields;
 
 // 7E 42 4B 00, the least byte first.
 pub const MARK: u32 = 0x004B427E;
@@ -15,21 +17,15 @@ pub struct BlockHeader {
     pub total: u32,
 }
 
-impl BlockHeader {
-    pub const SIZE: usize = 14;
+impl Fields for BlockHeader {
+    const SIZE: usize = 14;
 
-    pub fn decode(file: &[u8], at: usize) -> BlockHeader
-        requires { at + BlockHeader.SIZE ≤ length file.now }
-        ensures { result ≡ block_header_at file.now at }
-    {
-        BlockHeader::of(&file[at..at + BlockHeader::SIZE])
-    }
+    ghost SIZE = { block_header_size };
 
-    // The fields, at their offsets.
-    fn of(header: &[u8]) -> BlockHeader
-        requires { BlockHeader.SIZE ≤ length header.now }
-        ensures { result ≡ block_header_of header.now }
-    {
+    ghost fields_of = { block_header_of };
+
+    #[tactic(auto, unfolding(crate::specs::BlockHeader::block_header_of))]
+    fn of(header: &[u8]) -> BlockHeader {
         BlockHeader {
             mark: endian::u32_at(header, 0),
             id: endian::u16_at(header, 4),
@@ -37,7 +33,10 @@ impl BlockHeader {
             total: endian::u32_at(header, 10),
         }
     }
+}
 
+impl BlockHeader {
+    #[tactic(auto, unfolding(crate::specs::BlockHeader::is_marked, endian::specs::Number::le))]
     pub fn marked(self) -> bool
         ensures { result ≡ is_marked self }
     {

@@ -7,10 +7,11 @@ use native.Mathlib.Omega.{arith}
 use lib.ListN.{length, drop, get_or}
 use Rattle.packet.specs.declared.Packet.{Packet}
 use Rattle.packet.specs.declared.Packet.TheVariants.{Literals, Run}
-use Rattle.packet.specs.declared.Look.{Look}
-use Rattle.packet.specs.declared.Look.TheVariants.{End, Next, Count128, Missing, TooMuch}
-use Rattle.packet.specs.Stream.{size_of, count_of, bytes_of, fitted, look_of, Outcome, bytes, refused, join, meant, meaning_from, meaning}
+use Rattle.packet.specs.Stream.{Look, End, Next, Count128, Missing, TooMuch, size_of, count_of, bytes_of, fitted, look_of, Outcome, bytes, refused, join, meant, meaning_from}
 use Rattle.packet.specs.Reading.{good, refusal, verdict}
+use Rattle.packet.specs.Standing.{Onward}
+use Rattle.packet.specs.declared.stand.Stand.{Stand}
+use Rattle.packet.specs.declared.told.Plane.{Plane}
 use Rattle.packet.proofs.Stream.{onward, meaning_stop, fitted_missing, fitted_too_much, look_end, look_short, look_full, look_128, look_literals, look_run, look_byte_missing, next_literals, next_run}
 
 verdict_join : (stored plane : ℕ) (xs : List ℕ) (o : Outcome) → verdict stored plane (join xs o) ≡ verdict stored plane o
@@ -23,15 +24,21 @@ pub record Judged (s : List ℕ) (plane : ℕ) (o : Outcome) (at done : ℕ) : T
   pub room : done ≤ plane
   pub same : verdict (length s) plane o ≡ verdict (length s) plane (meaning_from (drop at s) at (plane - done))
 
-pub judged_first : (s : List ℕ) (plane : ℕ) → Judged s plane (meaning s plane) 0 0
-unfolding meaning
-judged_first s plane = record { within = omega arith; room = omega arith; same = ap (λ (n : ℕ). verdict (length s) plane (meaning_from s 0 n)) (all plane) }
-  where
-    all : (n : ℕ) → n ≡ n - 0
-    all n = omega arith
+-- a pass that goes on from a stand
+abbrev told : List ℕ → ℕ → ℕ → ℕ → Plane
+told s plane at done = verdict (length s) plane (meaning_from (drop at s) at (plane - done))
 
-pub judged_here : {s : List ℕ} {plane at done : ℕ} → at ≤ length s → done ≤ plane → Judged s plane (meaning_from (drop at s) at (plane - done)) at done
-judged_here within room = record { within = within; room = room; same = refl }
+pub judged_past :
+    {s : List ℕ} {plane : ℕ} {o : Outcome} {at done : ℕ} (from to : Stand) → Judged s plane o at done
+    → (from.stream.now ≡ s) × (from.plane ≡ plane) × (from.at ≡ at) × (from.done ≡ done) → Onward from to → Judged s plane o to.at to.done
+judged_past {s} {plane} from to j m past =
+    let stream : to.stream.now ≡ s = past.0 ∙ m.0 in
+    let full : to.plane ≡ plane = past.1 ∙ m.1 in
+    record {
+      within = subst (λ (l : List ℕ). to.at ≤ length l) stream to.within.0;
+      room = subst (λ (n : ℕ). to.done ≤ n) full to.within.1;
+      same = j.same ∙ sym (λ i. told (m.0 i) (m.1 i) (m.2 i) (m.3 i)) ∙ sym past.3 ∙ (λ i. told (stream i) (full i) to.at to.done);
+    }
 
 module _ {s : List ℕ} {plane : ℕ} {o : Outcome} {at done : ℕ} (j : Judged s plane o at done) where
   judged_on : (p : Packet) → look_of (drop at s) (plane - done) ≡ Next p → Judged s plane o (at + size_of p) (done + count_of p)

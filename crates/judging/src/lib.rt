@@ -11,13 +11,12 @@ ghost use Rattle.packet.specs.Stream.{meaning};
 ghost use Rattle.packet.specs.Reading.{paper, verdict};
 
 use front::test_front;
-use packet::PlaneAnswer;
+use packet::{PlaneAnswer, Stand};
 use rest::test_rest;
 
 // The answer of the whole stream.
 pub fn test(stream: &[u8], plane: usize) -> PlaneAnswer
     ensures { paper result ≡ verdict (length stream.now) plane (meaning stream.now plane) }
 {
-    let from = test_front(stream, plane);
-    test_rest(stream, plane, from)
+    test_rest(test_front(Stand::first(stream, plane)))
 }

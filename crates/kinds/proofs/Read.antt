@@ -6,6 +6,7 @@ use Prim.Native.Nat.{ℕ, ◌+◌, ◌*◌, ◌≤◌, ◌<◌}
 use native.Mathlib.Omega.{arith}
 use lib.Dec.{eqb}
 use lib.ListN.{length, drop}
+use Rattle.std.specs.Prelude.{Option}
 use Rattle.laws.specs.Choice.{pick}
 use Rattle.laws.proofs.Choice.{pick_ind}
 use Rattle.laws.proofs.Tests.{never}
@@ -15,7 +16,6 @@ use Rattle.walk.specs.Walk.{Step, Stop, Nest}
 use Rattle.walk.specs.Owed.{Reads}
 use Rattle.walk.proofs.Unit.{unit_ind, Depends, unit_depends, unit_depends_from, unit_unread}
 use Rattle.headers.specs.BlockHeader.{block_header_size}
-use Rattle.attributes.specs.declared.fault.Fault.{Fault}
 use Rattle.attributes.specs.declared.image_attributes.ImageChunk.{ImageChunk}
 use Rattle.attributes.specs.ImageAttributes.{image_size, image_of}
 use Rattle.chunk.specs.declared.color_palette.PaletteChunk.{PaletteChunk}
@@ -65,12 +65,12 @@ module _ (s : List ℕ) (st : State) (at level i : ℕ) where
 
   -- one that is entered behind its chunk, by what is unread of its entry
   pub nest_judged_reads :
-      (total size : ℕ) (fault : Fault) (e : Entry) (q : State) → i < at + (block_header_size + size) → (Unread e i → ⊥)
+      (total size : ℕ) (fault : Option ℕ) (e : Entry) (q : State) → i < at + (block_header_size + size) → (Unread e i → ⊥)
       → R (permitted fault (at + block_header_size) (Nest e (at + (block_header_size + size)) q (at + block_header_size + total)))
   nest_judged_reads total size fault e q near other = permitted_ind R _ _ _ (λ _ _. tt) (λ _. (near, other))
 
   pub nest_reads :
-      (total size : ℕ) (fault : List ℕ → Fault) (e : Entry) (q : List ℕ → State) → i < at + (block_header_size + size) → (Unread e i → ⊥)
+      (total size : ℕ) (fault : List ℕ → Option ℕ) (e : Entry) (q : List ℕ → State) → i < at + (block_header_size + size) → (Unread e i → ⊥)
       → R (nest_block s total at size fault e q)
   nest_reads total size fault e q near other =
       unit_ind R s (at + block_header_size) size _ (λ _. tt) (λ _. nest_judged_reads total size (fault _) e (q _) near other)
@@ -106,7 +106,7 @@ module _ (s s' : List ℕ) (same : length s ≡ length s') (st : State) (at leve
 
   -- the first m bytes of the chunk have no say in what is taken from it
   pub nest_depends :
-      (m total size : ℕ) (fault : List ℕ → Fault) (e : Entry) (q : List ℕ → State)
+      (m total size : ℕ) (fault : List ℕ → Option ℕ) (e : Entry) (q : List ℕ → State)
       → ((i : ℕ) → at + block_header_size + m ≤ i → Unread e i → ⊥)
       → ((xs ys : List ℕ) → drop m xs ≡ drop m ys → (fault xs ≡ fault ys) × (q xs ≡ q ys))
       → D (nest_block s total at size fault e q) (nest_block s' total at size fault e q)
@@ -114,4 +114,4 @@ module _ (s s' : List ℕ) (same : length s ≡ length s') (st : State) (at leve
       unit_depends_from Unread s s' same at m (at + block_header_size) size _ _ (omega arith)
       (λ xs i from to. nest_judged_reads s st at level i total size (fault xs) e (q xs) (omega arith) (other i from))
       (λ xs ys is _. let a = alike xs ys is in
-      ap₂ (λ (f : Fault) (x : State). permitted f (at + block_header_size) (Nest e (at + (block_header_size + size)) x (at + block_header_size + total))) a.0 a.1)
+      ap₂ (λ (f : Option ℕ) (x : State). permitted f (at + block_header_size) (Nest e (at + (block_header_size + size)) x (at + block_header_size + total))) a.0 a.1)

@@ -1,6 +1,6 @@
 -- Each kind of block of the main level, once its header has passed: its chunk and its other units, in document 01's order of tests ("Units,
 -- and when they are judged"). `at` is the header's place. Layers and channels are in the crate `layers`, selections and alpha channels in `masks`.
-use Rattle.std.specs.Prelude.{ℕ, ◌+◌, ◌*◌, Bool, List, eqb}
+use Rattle.std.specs.Prelude.{ℕ, ◌+◌, ◌*◌, Bool, List, Option, None, Some, Result, Ok, Err, eqb}
 use Rattle.laws.specs.Choice.{pick}
 use Rattle.answer.specs.declared.Refusal.TheVariants.{WrongLength, WrongField, NotReadable}
 use Rattle.entry.specs.declared.Entry.{Entry}
@@ -10,26 +10,30 @@ use Rattle.walk.specs.Walk.{End, Stop, Leaf, Nest}
 use Rattle.walk.specs.Unit.{unit}
 use Rattle.headers.specs.BlockHeader.{block_header_size}
 use Rattle.attributes.specs.declared.image_attributes.ImageChunk.{ImageChunk}
-use Rattle.attributes.specs.declared.fault.Fault.{Fault}
-use Rattle.attributes.specs.declared.fault.Fault.TheVariants.{None, At}
 use Rattle.attributes.specs.ImageAttributes.{image_size, image_of, image_fault}
 use Rattle.chunk.specs.declared.color_palette.PaletteChunk.{PaletteChunk}
 use Rattle.chunk.specs.Heads.{image_head, palette_head}
 use Rattle.chunk.specs.ColorPalette.{palette_size, palette_of, palette_fault}
 use Rattle.memory.specs.declared.state.State.{State}
 use Rattle.memory.specs.State.{with_image, with_palette, with_bank}
-use Rattle.kinds.specs.declared.Step.{Step}
-use Rattle.kinds.specs.declared.Step.TheVariants as code
+use Rattle.kinds.specs.declared.answers.Stop as code_stop
+use Rattle.kinds.specs.declared.answers.Step.{Step}
+use Rattle.kinds.specs.declared.answers.Step.TheVariants as code
 
 abbrev pub Judged : Type 0
 Judged = walk.Step State
 
--- the code's step, as the walk's
-abbrev pub told : Step → Judged
-told code.End = End
-told (code.Stop r p) = Stop r p
-told (code.Leaf e next st) = Leaf e next st
-told (code.Nest e inside st after) = Nest e inside st after
+-- the code's step or stop, as the walk's
+abbrev pub told : Result Step code_stop.Stop → Judged
+told (Ok code.End) = End
+told (Ok (code.Leaf e next st)) = Leaf e next st
+told (Ok (code.Nest e inside st after)) = Nest e inside st after
+told (Err s) = Stop s.refusal s.place
+
+-- what a test of the code lets through is judged on, and where it stops is the answer
+abbrev pub tested : {A : Type 0} → Result A code_stop.Stop → (A → Judged) → Judged
+tested (Ok x) rest = rest x
+tested (Err s) rest = Stop s.refusal s.place
 
 -- ### Answers
 
@@ -42,12 +46,12 @@ abbrev pub wrong_field : ℕ → ℕ → Judged
 wrong_field chunk offset = Stop WrongField (chunk + offset)
 
 -- unless every field is permitted
-unfoldable pub permitted : Fault → ℕ → Judged → Judged
+unfoldable pub permitted : Option ℕ → ℕ → Judged → Judged
 permitted None chunk rest = rest
-permitted (At offset) chunk rest = wrong_field chunk offset
+permitted (Some offset) chunk rest = wrong_field chunk offset
 
 -- a block that is entered behind its chunk: the chunk's fields, then the entry, the state inside, and the end that its total tells
-abbrev pub nest_block : List ℕ → ℕ → ℕ → ℕ → (List ℕ → Fault) → Entry → (List ℕ → State) → Judged
+abbrev pub nest_block : List ℕ → ℕ → ℕ → ℕ → (List ℕ → Option ℕ) → Entry → (List ℕ → State) → Judged
 nest_block s total at size fault entry state =
     unit s (at + block_header_size) size (λ chunk.
     permitted (fault chunk) (at + block_header_size) (Nest entry (at + (block_header_size + size)) (state chunk) (at + block_header_size + total)))

@@ -1,45 +1,35 @@
 // Image, id 0: a bad field comes before a compression that is not read.
 ghost use Rattle.std.specs.Prelude.{◌≡◌};
-ghost use Rattle.kinds.specs.Headed.{Headed};
 ghost use Rattle.kinds.specs.Blocks.{told, image_block};
 
-use crate::Step;
-use crate::answers::{ranked_entry, wrong_field};
+use crate::answers::{Step, Stop, ranked_entry};
+use crate::here::Here;
 use answer::Refusal;
-use attributes::fault::Fault;
 use attributes::image_attributes::ImageChunk;
 use headers::block_header::BlockHeader;
+use headers::fields::Fields;
+use headers::kind::Kind;
 use memory::State;
 
 const HEAD: usize = BlockHeader::SIZE + ImageChunk::SIZE;
 
-pub fn image_block(s: &[u8], st: State, at: usize, level: usize) -> Step
-    requires { Headed s.now at level }
-    ensures { told result ≡ image_block s.now st at level }
+// LZ77 compression.
+const LZ77: u16 = 2;
+
+pub fn image_block(here: Here, st: State) -> Result<Step, Stop>
+    ensures { told result ≡ image_block here.entry.input.now st here.entry.at here.entry.level }
 {
-    let chunk = at + BlockHeader::SIZE;
-    let end = chunk + ImageChunk::SIZE;
-    if s.len() < end {
-        return Step::Stop {
-            refusal: Refusal::EndsTooSoon,
-            place: chunk,
-        };
+    let c: ImageChunk = here.chunk()?;
+    here.permitted(c.judge())?;
+    if c.compression == LZ77 {
+        return Err(Stop {
+            refusal: Refusal::NotReadable,
+            place: here.chunk_place(),
+        });
     }
-    let c = ImageChunk::decode(s, chunk);
-    match c.judge() {
-        Fault::At(offset) => wrong_field(chunk, offset),
-        Fault::None => {
-            if c.compression == 2 {
-                return Step::Stop {
-                    refusal: Refusal::NotReadable,
-                    place: chunk,
-                };
-            }
-            Step::Leaf {
-                entry: ranked_entry(0, level, at, HEAD, 0),
-                next: at + HEAD,
-                state: st.with_image(c),
-            }
-        }
-    }
+    Ok(Step::Leaf {
+        entry: ranked_entry(Kind::Image as u32, here.level, here.at, HEAD, 0),
+        next: here.at + HEAD,
+        state: st.with_image(c),
+    })
 }

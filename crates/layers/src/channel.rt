@@ -1,17 +1,16 @@
 // Channel, id 5: the total by the stored length, the codes, expected and not twice, the plane length, the content.
 ghost use Rattle.std.specs.Prelude.{◌≡◌, ◌+◌, ◌<◌, ◌^◌};
 ghost use Rattle.chunk.specs.Heads.{channel_head};
-ghost use Rattle.memory.specs.State.{shape_for};
-ghost use Rattle.kinds.specs.Headed.{Headed};
 ghost use Rattle.kinds.specs.Blocks.{told};
-ghost use Rattle.layers.specs.Layers.{is_awaited, channel_entry, channel_sized, channel_coded, channel_block};
+ghost use Rattle.layers.specs.Layers.{is_awaited, channel_entry, channel_block};
 
 use answer::Refusal;
-use attributes::fault::Fault;
 use chunk::channel_information::ChannelChunk;
-use entry::{Block, Code, Content, Entry};
+use entry::{Code, Content, Entry};
 use headers::block_header::BlockHeader;
-use kinds::{Step, wrong_field};
+use headers::fields::Fields;
+use headers::kind::Kind;
+use kinds::{Here, Step, Stop};
 use memory::{Parent, State};
 use rect::Size;
 
@@ -31,13 +30,7 @@ pub fn channel_entry(level: usize, at: usize, layer: u32, c: ChannelChunk, size:
     ensures { result ≡ channel_entry level at layer c size }
 {
     Entry {
-        block: Block {
-            id: 5,
-            skipped: 0,
-            level: level as u32,
-            place: at as u32,
-            owned: HEAD as u32 + c.stored,
-        },
+        block: kinds::entry_block(Kind::Channel as u32, 0, level, at, HEAD + c.stored as usize),
         layer,
         code: Code {
             bitmap: c.bitmap as u32,
@@ -51,76 +44,30 @@ pub fn channel_entry(level: usize, at: usize, layer: u32, c: ChannelChunk, size:
     }
 }
 
-// Its plane length and its content, once it is expected.
-fn sized(s: &[u8], st: State, at: usize, level: usize, c: ChannelChunk) -> Step
-    requires { (Headed s.now at level) × (0 < st.current.left) }
-    ensures { told result ≡ channel_sized s.now st at level c (shape_for st.current st.image.depth c.bitmap) }
+// Its codes come before its plane length.
+pub fn channel_block(here: Here, st: State, parent: Parent, total: u32) -> Result<Step, Stop>
+    requires { 0 < st.current.left }
+    ensures { told result ≡ channel_block here.entry.input.now st parent total here.entry.at here.entry.level }
 {
+    let c: ChannelChunk = here.chunk()?;
+    here.unless(
+        total as usize == ChannelChunk::SIZE + c.stored as usize,
+        Refusal::WrongLength,
+    )?;
+    here.permitted(c.judge_codes())?;
+    here.unless(awaited(st, parent, c), Refusal::NotExpected)?;
     let shape = st.current.shape_for(st.image.depth, c.bitmap);
-    match c.judge_plane(shape) {
-        Fault::At(offset) => wrong_field(at + BlockHeader::SIZE, offset),
-        Fault::None => {
-            let content = at + HEAD;
-            let next = content + c.stored as usize;
-            if s.len() < next {
-                return Step::Stop {
-                    refusal: Refusal::EndsTooSoon,
-                    place: content,
-                };
-            }
-            Step::Leaf {
-                entry: channel_entry(level, at, st.current.number, c, shape.size(c.plane)),
-                next,
-                state: st.with_channel(c),
-            }
-        }
-    }
-}
-
-// Its codes, once its total is good.
-fn coded(s: &[u8], st: State, parent: Parent, at: usize, level: usize, c: ChannelChunk) -> Step
-    requires { (Headed s.now at level) × (0 < st.current.left) }
-    ensures { told result ≡ channel_coded s.now st parent at level c }
-{
-    match c.judge_codes() {
-        Fault::At(offset) => wrong_field(at + BlockHeader::SIZE, offset),
-        Fault::None => {
-            if awaited(st, parent, c) {
-                return sized(s, st, at, level, c);
-            }
-            Step::Stop {
-                refusal: Refusal::NotExpected,
-                place: at,
-            }
-        }
-    }
-}
-
-pub fn channel_block(
-    s: &[u8],
-    st: State,
-    parent: Parent,
-    total: u32,
-    at: usize,
-    level: usize,
-) -> Step
-    requires { (Headed s.now at level) × (0 < st.current.left) }
-    ensures { told result ≡ channel_block s.now st parent total at level }
-{
-    let chunk = at + BlockHeader::SIZE;
-    let end = chunk + ChannelChunk::SIZE;
-    if s.len() < end {
-        return Step::Stop {
-            refusal: Refusal::EndsTooSoon,
-            place: chunk,
-        };
-    }
-    let c = ChannelChunk::decode(s, chunk);
-    if total as usize == ChannelChunk::SIZE + c.stored as usize {
-        return coded(s, st, parent, at, level, c);
-    }
-    Step::Stop {
-        refusal: Refusal::WrongLength,
-        place: at,
-    }
+    here.permitted(c.judge_plane(shape))?;
+    let next = here.unit(here.at + HEAD, c.stored as usize)?;
+    Ok(Step::Leaf {
+        entry: channel_entry(
+            here.level,
+            here.at,
+            st.current.number,
+            c,
+            shape.size(c.plane),
+        ),
+        next,
+        state: st.with_channel(c),
+    })
 }

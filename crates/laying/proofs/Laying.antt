@@ -4,16 +4,15 @@ use mathlib.Core.List.{List, [], ◌++◌, append-nil}
 use Prim.Native.Nat.{ℕ, suc, ◌+◌, ◌-◌, ◌<◌, ◌≤◌}
 use native.Mathlib.Omega.{arith}
 use lib.ListN.{length, take, drop, get_or, replicate, length-drop}
-use lib.Seq.{take_all}
-use Rattle.laws.specs.Lists.{part}
+use lib.Seq.{drop-drop, take_all}
 use Rattle.packet.specs.declared.Packet.{Packet}
 use Rattle.packet.specs.declared.Packet.TheVariants.{Literals, Run}
-use Rattle.packet.specs.declared.Look.{Look}
-use Rattle.packet.specs.declared.Look.TheVariants.{End, Next, Count128, Missing, TooMuch}
-use Rattle.packet.specs.Stream.{size_of, count_of, bytes_of, look_of, Outcome, bytes, refused, join, meaning_from, meaning}
+use Rattle.packet.specs.Stream.{Look, End, Next, Count128, Missing, TooMuch, size_of, count_of, bytes_of, look_of, Outcome, bytes, refused, join, meaning_from, meaning}
 use Rattle.packet.specs.Reading.{verdict}
+use Rattle.packet.specs.Standing.{ahead}
+use Rattle.packet.specs.declared.stand.Stand.{Stand}
 use Rattle.packet.proofs.Stream.{Stood, Shown, ended, count_128, missing, too_much, next, shown, onward, meaning_stop, join_join, join_nothing, stood_literals, stood_run}
-use Rattle.laying.proofs.Laid.{part_after}
+use Rattle.laying.proofs.Laid.{Ahead}
 
 -- what is written stands in front of what the rest of the stream means; behind it stands whatever blocks have left there
 pub record Laying (s : List ℕ) (plane at done : ℕ) (dest : List ℕ) : Type 0 where
@@ -22,16 +21,23 @@ pub record Laying (s : List ℕ) (plane at done : ℕ) (dest : List ℕ) : Type 
   pub long : length dest ≡ plane
   pub means : meaning s plane ≡ join (take done dest) (meaning_from (drop at s) at (plane - done))
 
-pub laying_first : (s : List ℕ) (dest : List ℕ) → Laying s (length dest) 0 0 dest
-unfolding meaning
-laying_first s dest =
-    let all : length dest ≡ length dest - 0 = omega arith in
+-- a pass that goes on from a stand, and one that begins
+pub laying_at :
+    (s : List ℕ) (x : Stand) (dest : List ℕ) → x.stream.now ≡ s → x.plane ≡ length dest → meaning s (length dest) ≡ join (take x.done dest) (ahead x)
+    → Laying s (length dest) x.at x.done dest
+laying_at s x dest stream full means =
     record {
-      within = omega arith;
-      room = omega arith;
+      within = subst (λ (l : List ℕ). x.at ≤ length l) stream x.within.0;
+      room = subst (λ (n : ℕ). x.done ≤ n) full x.within.1;
       long = refl;
-      means = sym (join_nothing (meaning_from s 0 (length dest))) ∙ ap (λ (n : ℕ). join [] (meaning_from s 0 n)) all;
+      means = means ∙ (λ i. join (take x.done dest) (meaning_from (drop x.at (stream i)) x.at (full i - x.done)));
     }
+
+pub laying_first :
+    (s : List ℕ) (x : Stand) (dest : List ℕ) → x.stream.now ≡ s → x.plane ≡ length dest → x.done ≡ 0 → ahead x ≡ meaning s (length dest)
+    → Laying s (length dest) x.at x.done dest
+laying_first s x dest stream full none all =
+    laying_at s x dest stream full (sym (ap (λ (n : ℕ). join (take n dest) (ahead x)) none ∙ join_nothing (ahead x) ∙ all))
 
 -- a stream that is accepted: it is at its end, and its plane is full, or a packet stands there
 module _ (s : List ℕ) (stored plane at left : ℕ) (xs : List ℕ) (good : (verdict stored plane (join xs (meaning_from s at left))).number ≡ 0) where
@@ -100,12 +106,12 @@ module _ {s : List ℕ} {plane at done : ℕ} {dest : List ℕ} (l : Laying s pl
           (omega (arith, on.fits), omega (arith, on.room, l.room))
 
       pub laying_literals :
-          (after : List ℕ) → count < 128 → length after ≡ length dest → take (done + count) after ≡ take done dest ++ part s (at + 1) count
-          → Laying s plane (at + (1 + count)) (done + count) after
-      laying_literals after low long f =
+          (after : List ℕ) → count < 128 → Ahead dest done count (take count (drop (at + 1) s)) after → Laying s plane (at + (1 + count)) (done + count) after
+      laying_literals after low a =
           let size : count + 1 ≡ 1 + count = omega arith in
+          let literals : take count (drop (at + 1) s) ≡ take count (drop 1 (drop at s)) = ap (take count) (sym (drop-drop 1 at s)) in
           subst (λ (n : ℕ). Laying s plane (at + n) (done + count) after) size
-          (laying_on (Literals count) after (literals_there low) long (f ∙ ap (λ (ys : List ℕ). take done dest ++ ys) (part_after s at count)))
+          (laying_on (Literals count) after (literals_there low) a.0 (a.1 ∙ ap (λ (ys : List ℕ). take done dest ++ ys) literals))
 
       run_there : 128 ≤ count → look_of (drop at s) (plane - done) ≡ Next (Run (count - 128) (get_or s (at + 1) 0))
       run_there high = stands.1 ∙ ap Next (stood_run s at (plane - done) count is stands.2 high)
@@ -116,7 +122,6 @@ module _ {s : List ℕ} {plane at done : ℕ} {dest : List ℕ} (l : Laying s pl
           (on.fits, omega (arith, on.room, l.room))
 
       pub laying_run :
-          (after : List ℕ) → 128 ≤ count → length after ≡ length dest
-          → take (done + (count - 128)) after ≡ take done dest ++ replicate (count - 128) (get_or s (at + 1) 0)
+          (after : List ℕ) → 128 ≤ count → Ahead dest done (count - 128) (replicate (count - 128) (get_or s (at + 1) 0)) after
           → Laying s plane (at + 2) (done + (count - 128)) after
-      laying_run after high long f = laying_on (Run (count - 128) (get_or s (at + 1) 0)) after (run_there high) long f
+      laying_run after high a = laying_on (Run (count - 128) (get_or s (at + 1) 0)) after (run_there high) a.0 a.1

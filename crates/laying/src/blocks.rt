@@ -1,42 +1,52 @@
 // A packet's bytes laid by whole blocks of a fixed size, which are written without a count of their bytes. A block may be longer than the
 // packet: what it leaves behind the packet's bytes is overwritten by the packets that follow, and lies inside the plane.
-ghost use Rattle.std.specs.Prelude.{◌≡◌, ◌++◌, ◌+◌, ◌≤◌, length, take, replicate};
-ghost use Rattle.laws.specs.Lists.{part};
+ghost use Rattle.std.specs.Prelude.{◌≡◌, ◌++◌, ◌≤◌, length, take, drop, replicate};
 
-use crate::repeat::repeat_over;
-
-// n literal bytes of the stream stand in dest from a place on, behind all that stood before them.
-pub(crate) fn put_literals(stream: &[u8], from: usize, n: usize, dest: &mut [u8], at: usize)
-    requires { (n ≤ 128) × (from + 128 ≤ length stream.now) × (at + 128 ≤ length dest.old) }
-    ensures { (length dest.new ≡ length dest.old) × (take (at + n) dest.new ≡ take at dest.old ++ part stream.now from n) }
+// N bytes in front of dest. All are read into a local block before one is written, so that the compiler need not look whether the slices
+// overlap.
+fn copy_block<const N: usize>(from: &[u8], dest: &mut [u8])
+    requires { (N ≤ length from.now) × (N ≤ length dest.old) }
+    ensures { dest.new ≡ take N from.now ++ drop N dest.old }
 {
-    if n <= 32 {
-        bulk::copy_block(stream, from, 32, dest, at);
-        return;
-    }
-    if n <= 64 {
-        bulk::copy_block(stream, from, 64, dest, at);
-        return;
-    }
-    bulk::copy_block(stream, from, 128, dest, at);
+    let mut block = [0; N];
+    block.copy_from_slice(&from[..N]);
+    dest[..N].copy_from_slice(&block);
 }
 
-// A byte stands n times in dest from a place on, behind all that stood before it.
-pub(crate) fn put_run(byte: u8, n: usize, dest: &mut [u8], at: usize)
-    requires { (n ≤ 128) × (at + 128 ≤ length dest.old) }
-    ensures { (length dest.new ≡ length dest.old) × (take (at + n) dest.new ≡ take at dest.old ++ replicate n byte) }
+// A byte N times in front of dest.
+fn fill_block<const N: usize>(byte: u8, dest: &mut [u8])
+    requires { N ≤ length dest.old }
+    ensures { dest.new ≡ replicate N byte ++ drop N dest.old }
+{
+    dest[..N].fill(byte);
+}
+
+// n literal bytes stand in front of dest.
+pub(crate) fn put_literals(from: &[u8], n: usize, dest: &mut [u8])
+    requires { (n ≤ 128) × (128 ≤ length from.now) × (128 ≤ length dest.old) }
+    ensures { (length dest.new ≡ length dest.old) × (take n dest.new ≡ take n from.now) }
+{
+    if n <= 32 {
+        copy_block::<32>(from, dest);
+    } else if n <= 64 {
+        copy_block::<64>(from, dest);
+    } else {
+        copy_block::<128>(from, dest);
+    }
+}
+
+// A byte stands n times in front of dest.
+pub(crate) fn put_run(byte: u8, n: usize, dest: &mut [u8])
+    requires { (n ≤ 128) × (128 ≤ length dest.old) }
+    ensures { (length dest.new ≡ length dest.old) × (take n dest.new ≡ replicate n byte) }
 {
     if n <= 16 {
-        repeat_over(byte, 16, dest, at);
-        return;
+        fill_block::<16>(byte, dest);
+    } else if n <= 32 {
+        fill_block::<32>(byte, dest);
+    } else if n <= 64 {
+        fill_block::<64>(byte, dest);
+    } else {
+        fill_block::<128>(byte, dest);
     }
-    if n <= 32 {
-        repeat_over(byte, 32, dest, at);
-        return;
-    }
-    if n <= 64 {
-        repeat_over(byte, 64, dest, at);
-        return;
-    }
-    repeat_over(byte, 128, dest, at);
 }

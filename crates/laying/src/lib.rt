@@ -5,7 +5,6 @@
 
 mod blocks;
 mod front;
-mod repeat;
 mod rest;
 
 ghost use Rattle.std.specs.Prelude.{◌≡◌, length};
@@ -21,5 +20,5 @@ pub fn write(stream: &[u8], dest: &mut [u8])
     ensures { meaning stream.now (length dest.old) ≡ bytes dest.new }
 {
     let from = write_front(stream, dest);
-    write_rest(stream, dest, from);
+    write_rest(from, dest);
 }

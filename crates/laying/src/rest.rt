@@ -1,29 +1,33 @@
 // The packets that are left, laid byte for byte.
-ghost use Rattle.std.specs.Prelude.{◌≡◌, ◌-◌, ◌≤◌, length, take, drop};
-ghost use Rattle.packet.specs.Stream.{bytes, join, meaning, meaning_from};
+ghost use Rattle.std.specs.Prelude.{◌≡◌, length, take};
+ghost use Rattle.packet.specs.Stream.{bytes, join, meaning};
 ghost use Rattle.packet.specs.Reading.{verdict};
+ghost use Rattle.packet.specs.Standing.{ahead};
 
-use crate::repeat::repeat_over;
-use packet::{Stand, wide};
+use packet::Stand;
 
 // The packets that are left, each byte of theirs and no more.
-pub(crate) fn write_rest(stream: &[u8], dest: &mut [u8], from: Stand)
-    requires dest_value { (verdict (length stream.now) (length dest.old) (meaning stream.now (length dest.old))).number ≡ 0 }
-    requires at_in_bounds { (from.at ≤ length stream.now) × (from.done ≤ length dest.old) × (meaning stream.now (length dest.old) ≡ join (take from.done dest.old) (meaning_from (drop from.at stream.now) from.at (length dest.old - from.done))) }
-    ensures { meaning stream.now (length dest.old) ≡ bytes dest.new }
+pub(crate) fn write_rest(from: Stand, dest: &mut [u8])
+    requires accepted { (verdict (length from.stream.now) from.plane (meaning from.stream.now from.plane)).number ≡ 0 }
+    requires laid { (from.plane ≡ length dest.old) × (meaning from.stream.now from.plane ≡ join (take from.done dest.old) (ahead from)) }
+    ensures { meaning from.entry.stream.now from.entry.plane ≡ bytes dest.new }
 {
+    let Stand { stream, .. } = from;
     let mut at = from.at;
     let mut done = from.done;
+    // Stays: (d) each turn is as long as its packet: an iterator of packets would hold these same two places.
     while at < stream.len() {
-        let count = wide(stream[at]);
+        let count = usize::from(stream[at]);
         if count < 128 {
-            bulk::copy_block(stream, at + 1, count, dest, done);
+            let literals = &stream[at + 1..at + 1 + count];
+            dest[done..done + count].copy_from_slice(literals);
             at += 1 + count;
             done += count;
         } else {
-            repeat_over(stream[at + 1], count - 128, dest, done);
+            let n = count - 128;
+            dest[done..done + n].fill(stream[at + 1]);
             at += 2;
-            done += count - 128;
+            done += n;
         }
     }
 }

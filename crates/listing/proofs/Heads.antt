@@ -8,6 +8,7 @@ use Prim.Native.Nat.{ℕ, ◌≤◌, ◌<◌}
 use native.Mathlib.Omega.{arith}
 use borrow.Author.Tests.{le-ltb, lt-ltb, ltb-false}
 use lib.ListN.{length, length-append}
+use Rattle.std.specs.Prelude.{Err}
 use Rattle.limits.specs.Limits.{input_limit}
 use Rattle.laws.specs.Choice.{pick}
 use Rattle.laws.specs.Lists.{part}
@@ -15,9 +16,9 @@ use Rattle.laws.proofs.Choice.{pick_yes, pick_no, pick_ind}
 use Rattle.laws.proofs.Part.{part_longer}
 use Rattle.laws.proofs.Tests.{never, yes_or_no, less_or_not}
 use Rattle.answer.specs.declared.Refusal.TheVariants.{EndsTooSoon}
-use Rattle.answer.specs.declared.Answer.TheVariants.{Accepted, WrongSignature, WrongVersion, Refused}
+use Rattle.answer.specs.Answers.{Accepted, is_accepted}
+use Rattle.answer.specs.declared.Stopped.TheVariants.{Rule, WrongSignature, WrongVersion}
 use Rattle.answer.specs.declared.Outcome.{Outcome}
-use Rattle.answer.specs.Answers.{is_accepted}
 use Rattle.answer.proofs.Names.{accepted_yes}
 use Rattle.walk.specs.Walk.{run}
 use Rattle.walk.specs.Room.{Listed, cut}
@@ -32,7 +33,7 @@ use Rattle.listing.specs.Listing.{head_answer, head_of, beyond, listing, listed}
 -- what the header's bytes say, once they are there
 abbrev said : FileHeader → Outcome
 said h =
-    pick (is_signed h) (pick (is_version h) (head_answer Accepted file_header_size) (head_answer WrongVersion version_place)) (head_answer WrongSignature 0)
+    pick (is_signed h) (pick (is_version h) (head_answer Accepted file_header_size) (head_answer (Err WrongVersion) version_place)) (head_answer (Err WrongSignature) 0)
 
 judged : (s : List ℕ) → length s ≤ input_limit → file_header_size ≤ length s → head_of s ≡ said (file_header_at s 0)
 unfolding head_of
@@ -41,7 +42,7 @@ judged s small there = pick_no _ _ _ (le-ltb input_limit (length s) small) ∙ p
 -- on more input the header is the same, unless it was not all there
 pub head_longer :
     (s t : List ℕ) → length (s ++ t) ≤ input_limit
-    → ((head_of s ≡ head_answer (Refused EndsTooSoon) 0) × (length s < file_header_size)) ⊎ (head_of s ≡ head_of (s ++ t))
+    → ((head_of s ≡ head_answer (Err (Rule EndsTooSoon)) 0) × (length s < file_header_size)) ⊎ (head_of s ≡ head_of (s ++ t))
 unfolding head_of
 head_longer s t small = by (less_or_not (length s) file_header_size)
   where
@@ -50,7 +51,7 @@ head_longer s t small = by (less_or_not (length s) file_header_size)
 
     by :
         (length s < file_header_size) ⊎ (file_header_size ≤ length s)
-        → ((head_of s ≡ head_answer (Refused EndsTooSoon) 0) × (length s < file_header_size)) ⊎ (head_of s ≡ head_of (s ++ t))
+        → ((head_of s ≡ head_answer (Err (Rule EndsTooSoon)) 0) × (length s < file_header_size)) ⊎ (head_of s ≡ head_of (s ++ t))
     by (inl short) = inl (pick_no _ _ _ (le-ltb input_limit (length s) within) ∙ pick_yes _ _ _ (lt-ltb (length s) file_header_size short), short)
     by (inr there) =
         inr

@@ -9,6 +9,7 @@ use native.Mathlib.Omega.{arith}
 use borrow.Author.Tests.{eqb-true}
 use lib.Dec.{eqb}
 use lib.ListN.{length, length-append}
+use Rattle.std.specs.Prelude.{None}
 use Rattle.laws.specs.Lists.{filter}
 use Rattle.laws.specs.Along.{Along, along_end}
 use Rattle.laws.proofs.Choice.{pick_no}
@@ -21,7 +22,6 @@ use Rattle.entry.specs.declared.Entry.{Entry}
 use Rattle.entry.specs.Entry.{block, plain, is_kind}
 use Rattle.walk.specs.Parents.{Holder, holds, holding, holder}
 use Rattle.walk.proofs.Parents.{holder_new, holder_held, holder_same}
-use Rattle.attributes.specs.declared.fault.Fault.TheVariants.{None}
 use Rattle.chunk.specs.declared.channel_information.ChannelChunk.{ChannelChunk}
 use Rattle.memory.specs.declared.parent.Open.{Open}
 use Rattle.memory.specs.declared.parent.Open.TheVariants as opens

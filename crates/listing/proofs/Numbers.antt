@@ -6,11 +6,11 @@ use Prim.Native.Nat.{ℕ}
 use native.Mathlib.Omega.{arith}
 use lib.Dec.{eqb, leb}
 use lib.ListN.{length}
+use Rattle.std.specs.Prelude.{Err}
 use Rattle.answer.specs.declared.Refusal.{Refusal}
 use Rattle.answer.specs.declared.Refusal.TheVariants.{EndsTooSoon, WrongMark, WrongLength, OutOfPlace, WrongField, NotExpected, Missing, NotReadable}
-use Rattle.answer.specs.declared.Answer.{Answer}
-use Rattle.answer.specs.declared.Answer.TheVariants.{Refused}
-use Rattle.answer.specs.Answers.{answer_number, is_accepted}
+use Rattle.answer.specs.Answers.{Answer, answer_number, is_accepted}
+use Rattle.answer.specs.declared.Stopped.TheVariants.{Rule}
 use Rattle.walk.specs.Walk.{Step, Listing, run}
 use Rattle.walk.specs.Room.{Listed, cut}
 use Rattle.walk.specs.Course.{Says, at_end, by_rule}
@@ -28,7 +28,7 @@ use Rattle.listing.proofs.Heads.{behind_head}
 abbrev is_told : ℕ → Bool
 is_told n = eqb n 0 || eqb n 2 || (leb 5 n && leb n 12)
 
-refusal_told : (r : Refusal) → is_told (answer_number (Refused r)) ≡ true
+refusal_told : (r : Refusal) → is_told (answer_number (Err (Rule r))) ≡ true
 refusal_told EndsTooSoon = refl
 refusal_told WrongMark = refl
 refusal_told WrongLength = refl

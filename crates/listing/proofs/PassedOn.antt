@@ -8,7 +8,7 @@ use borrow.Author.Tests.{ne_eqb}
 use lib.Dec.{eqb}
 use lib.ListN.{length}
 use Rattle.laws.proofs.All.{all_map}
-use Rattle.answer.specs.declared.Answer.TheVariants.{Accepted}
+use Rattle.answer.specs.Answers.{Accepted}
 use Rattle.answer.specs.declared.Outcome.{Outcome}
 use Rattle.entry.specs.declared.Entry.{Entry}
 use Rattle.entry.specs.Entry.{keep}
@@ -22,7 +22,7 @@ use Rattle.memory.specs.Parent.{main}
 use Rattle.memory.proofs.Placed.{Begun}
 use Rattle.block.specs.Step.{step_at}
 use Rattle.block.proofs.Owed.{moves}
-use Rattle.plain.specs.declared.skipped.Passed.{Passed}
+use Rattle.plain.specs.declared.stretch.Passed.{Passed}
 use Rattle.plain.specs.declared.layer.Layered.{Layered}
 use Rattle.plain.specs.Skips.{is_passable, Skips}
 use Rattle.plain.specs.Layer.{layer_entry, is_complete, HoldsPlain}
@@ -60,7 +60,7 @@ module _ (s : List ℕ) (q : Question) (end levels room : ℕ) (low : levels ≤
     entries = layer_entry at st.members.found ∷ p.entries
 
     abbrev inside : Listing State
-    inside = run (step_at s) (length s) r.state r.at r.after (levels - 1)
+    inside = run (step_at s) (length s) r.state r.passed.at r.after (levels - 1)
 
     keeps : kept t' y ≡ keep (put q) (kept t x) from entries
     keeps =
@@ -68,23 +68,23 @@ module _ (s : List ℕ) (q : Question) (end levels room : ℕ) (low : levels ≤
         ∙ sym (first_kept q (all_map (λ (e : Entry) (k : e.block.id ≡ 5). other_id q e (λ same. unasked (sym same ∙ k))) p.channels) (layer_entry at st.members.found) t x from)
 
     pub layer_halts :
-        (o : Outcome) (z : State) (mid : Kept) → Walked (put q) inside room r.count (kept t' y) o z mid → (o.answer ≡ Accepted → ⊥)
+        (o : Outcome) (z : State) (mid : Kept) → Walked (put q) inside room r.passed.count (kept t' y) o z mid → (o.answer ≡ Accepted → ⊥)
         → Walked (put q) (run (step_at s) (length s) st at end levels) room from (kept t x) o z mid
     layer_halts =
-        halted (put q) main (length s) (step_at s) (moves s) st at end levels order low room from (kept t x) entries r.count p.stores.counted p.stores.fits
-        (kept t' y) keeps r.at r.after r.state p.goes
+        halted (put q) main (length s) (step_at s) (moves s) st at end levels order low room from (kept t x) entries r.passed.count p.stores.counted p.stores.fits
+        (kept t' y) keeps r.passed.at r.after r.state p.goes
 
     pub layer_on :
-        (o : Outcome) (z : State) (mid : Kept) → Walked (put q) inside room r.count (kept t' y) o z mid → o.answer ≡ Accepted
+        (o : Outcome) (z : State) (mid : Kept) → Walked (put q) inside room r.passed.count (kept t' y) o z mid → o.answer ≡ Accepted
         → (o.count ≤ room) × Going st at from (kept t x) z r.after o.count mid
     layer_on =
-        went_on (put q) main (length s) (step_at s) (moves s) st at end levels order low room from (kept t x) entries r.count p.stores.counted p.stores.fits
-        (kept t' y) keeps r.at r.after r.state p.goes
+        went_on (put q) main (length s) (step_at s) (moves s) st at end levels order low room from (kept t x) entries r.passed.count p.stores.counted p.stores.fits
+        (kept t' y) keeps r.passed.at r.after r.state p.goes
 
-    pub layer_ended : is_complete r ≡ true → Going st at from (kept t x) r.state r.after r.count (kept t' y)
+    pub layer_ended : is_complete r ≡ true → Going st at from (kept t x) r.state r.after r.passed.count (kept t' y)
     layer_ended complete =
-        passed (put q) main (length s) (step_at s) (moves s) st at end levels order low room from (kept t x) entries r.count p.stores.counted p.stores.fits
+        passed (put q) main (length s) (step_at s) (moves s) st at end levels order low room from (kept t x) entries r.passed.count p.stores.counted p.stores.fits
         (kept t' y) keeps r.after r.state (leave p.goes refl (p.ends complete))
 
-    pub layer_few : x.count ≤ from → y.count ≤ r.count
+    pub layer_few : x.count ≤ from → y.count ≤ r.passed.count
     layer_few few = omega (arith, p.stores.counted, one_few q x (layer_entry at st.members.found) from notes few)

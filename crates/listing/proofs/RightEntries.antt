@@ -6,9 +6,7 @@ use Prim.Native.Nat.{ℕ, ◌<◌}
 use native.Mathlib.Omega.{arith}
 use lib.ListN.{length, take, get_or}
 use Rattle.laws.proofs.Choice.{pick_ind}
-use Rattle.answer.specs.declared.Answer.{Answer}
-use Rattle.answer.specs.declared.Answer.TheVariants.{Accepted}
-use Rattle.answer.specs.Answers.{is_accepted}
+use Rattle.answer.specs.Answers.{Answer, Accepted, is_accepted}
 use Rattle.answer.proofs.Names.{not_accepted}
 use Rattle.entry.specs.declared.Entry.{Entry}
 use Rattle.entry.specs.Entry.{block, plain}

@@ -9,6 +9,7 @@ use native.Mathlib.Omega.{arith}
 use borrow.Author.Tests.{eqb-true, ltb-true, not-true}
 use lib.Dec.{eqb, ltb}
 use lib.ListN.{length, length-append}
+use Rattle.std.specs.Prelude.{None}
 use Rattle.laws.specs.Choice.{pick}
 use Rattle.laws.specs.Lists.{filter}
 use Rattle.laws.proofs.Choice.{pick_ind}
@@ -28,7 +29,6 @@ use Rattle.walk.proofs.Parents.{closed_inside, closed_more}
 use Rattle.headers.specs.BlockHeader.{block_header_size}
 use Rattle.headers.specs.FileHeader.{file_header_size}
 use Rattle.headers.specs.Places.{image_place}
-use Rattle.attributes.specs.declared.fault.Fault.TheVariants.{None}
 use Rattle.attributes.specs.Depth.{is_depth, colour_short}
 use Rattle.attributes.specs.ImageAttributes.{is_paletted}
 use Rattle.attributes.proofs.Rules.{image_rules, four, colour_bits_lem}

@@ -6,8 +6,9 @@ use mathlib.Core.List.{List}
 use Prim.Native.Nat.{ℕ, ◌+◌, ◌≤◌, ◌<◌}
 use native.Mathlib.Omega.{arith}
 use lib.ListN.{length}
-use Rattle.answer.specs.declared.Answer.TheVariants.{Accepted, TableFull}
-use Rattle.answer.specs.Answers.{is_accepted}
+use Rattle.std.specs.Prelude.{Err}
+use Rattle.answer.specs.Answers.{Accepted, is_accepted}
+use Rattle.answer.specs.declared.Stopped.TheVariants.{TableFull}
 use Rattle.walk.specs.Promised.{Tiles, total, Found, Full, OneOwner}
 use Rattle.walk.proofs.Cut.{cut_room}
 use Rattle.walk.proofs.Tiling.{tiles_total, cut_found, cut_full_tiles, cut_accepted}
@@ -42,7 +43,7 @@ module _ (s : List ℕ) (room : ℕ) where
 
   -- where the table is full, the place is the header of the first entry that did not fit, and the entries reach it
   pub full_table :
-      is_accepted (head_of s).answer ≡ true → (listed s room).answer ≡ TableFull
+      is_accepted (head_of s).answer ≡ true → (listed s room).answer ≡ Err TableFull
       → Full (listing s).entries room (listed s room) × Tiles file_header_size (listed s room).entries (listed s room).place
   full_table good full =
       let is = behind_head s good in

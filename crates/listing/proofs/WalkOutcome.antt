@@ -24,7 +24,7 @@ use Rattle.block.specs.Step.{step_at}
 use Rattle.listing.specs.declared.question.Question.{Question}
 use Rattle.listing.specs.declared.walker.Out.{Out}
 use Rattle.listing.specs.Question.{found_in, nothing, noted, Kept, kept, put}
-use Rattle.listing.specs.Listing.{head_of, beyond, listing, listed, told, tabled, lists, room_up_to, lists_up_to, left_by}
+use Rattle.listing.specs.Listing.{head_of, beyond, listing, listed, told, tabled, room_up_to, lists_up_to, left_by}
 use Rattle.listing.specs.Walks.{Walks}
 use Rattle.listing.proofs.Noted.{noted_all}
 use Rattle.listing.proofs.Heads.{head_count, behind_head, refused_head}
@@ -59,22 +59,14 @@ module _ (s : List ℕ) (room : ℕ) (t : List ℕ) (q : Question) where
 
 -- a table that reaches as far as the room
 module _ (s t : List ℕ) (q : Question) (r : Out) (after : List ℕ) where
-  room_leaves :
-      (room : ℕ) → room ≤ length t / size → Walks s room t q r after
-      → left_by r.outcome after ≡ record { told = told (listed s room); dest = tabled (listed s room) t }
-  room_leaves room low w =
+  pub list_up_to_leaves : (most : ℕ) → Walks s (room_up_to most t) t q r after → left_by r.outcome after ≡ lists_up_to s most t
+  unfolding lists_up_to
+  list_up_to_leaves most w =
+      let room = room_up_to most t in
       let a = listed s room in
+      let low : room ≤ length t / size =
+      pick_ind (λ (n : ℕ). n ≤ length t / size) _ _ _ (λ less. omega (arith, ltb-true most (length t / size) less)) (λ _. omega arith) in
       let all : take (length t / size) a.entries ≡ a.entries = take_all (length t / size) a.entries (omega (arith, cut_room room (listing s))) in
       let table : after ≡ tabled a t =
       w.stores ∙ write_all a.entries t ∙ ap (λ (es : List Entry). numbers es ++ drop (size * length es) t) all in
       λ i. record { told = w.answer i; dest = table i }
-
-  pub list_leaves : Walks s (length t / size) t q r after → left_by r.outcome after ≡ lists s t
-  unfolding lists
-  list_leaves = room_leaves (length t / size) (omega arith)
-
-  pub list_up_to_leaves : (most : ℕ) → Walks s (room_up_to most t) t q r after → left_by r.outcome after ≡ lists_up_to s most t
-  unfolding lists_up_to
-  list_up_to_leaves most =
-      room_leaves (room_up_to most t)
-      (pick_ind (λ (n : ℕ). n ≤ length t / size) _ _ _ (λ less. omega (arith, ltb-true most (length t / size) less)) (λ _. omega arith))

@@ -1,14 +1,13 @@
 -- The listing of an input, and what listing leaves (document 01, "Answer numbers", "Units, and when they are judged").
-use Rattle.std.specs.Prelude.{ℕ, ◌*◌, ◌/◌, List, ◌++◌, ltb, length, drop}
+use Rattle.std.specs.Prelude.{ℕ, ◌*◌, ◌/◌, List, ◌++◌, ltb, length, drop, Err}
 use Rattle.limits.specs.Limits.{input_limit}
 use Rattle.laws.specs.Choice.{pick}
 use Rattle.laws.specs.Results.{Result}
 use Rattle.answer.specs.declared.Refusal.TheVariants.{EndsTooSoon}
-use Rattle.answer.specs.declared.Answer.{Answer}
-use Rattle.answer.specs.declared.Answer.TheVariants.{Accepted, OverLimit, WrongSignature, WrongVersion, Refused}
+use Rattle.answer.specs.Answers.{Answer, Accepted, answer_number, is_accepted, paper}
+use Rattle.answer.specs.declared.Stopped.TheVariants.{Rule, OverLimit, WrongSignature, WrongVersion}
 use Rattle.answer.specs.declared.Outcome.{Outcome}
 use Rattle.answer.specs.declared.Told.{Told}
-use Rattle.answer.specs.Answers.{answer_number, is_accepted, paper}
 use Rattle.entry.specs.Entry.{size, numbers}
 use Rattle.walk.specs.Walk.{Listing, ended, run}
 use Rattle.walk.specs.Room.{Listed, cut}
@@ -27,12 +26,12 @@ head_answer answer place = record { answer = answer; place = place; count = 0 }
 -- the file header: the limit (1), presence (2), the signature (3), the versions (4)
 unfoldable pub head_of : List ℕ → Outcome
 head_of s =
-    pick (ltb input_limit (length s)) (head_answer OverLimit 0)
-    (pick (ltb (length s) file_header_size) (head_answer (Refused EndsTooSoon) 0)
+    pick (ltb input_limit (length s)) (head_answer (Err OverLimit) 0)
+    (pick (ltb (length s) file_header_size) (head_answer (Err (Rule EndsTooSoon)) 0)
     (pick (is_signed (file_header_at s 0))
     (pick (is_version (file_header_at s 0)) (head_answer Accepted file_header_size)
-    (head_answer WrongVersion version_place))
-    (head_answer WrongSignature 0)))
+    (head_answer (Err WrongVersion) version_place))
+    (head_answer (Err WrongSignature) 0)))
 
 -- no end is held against a main block: no block of a permitted input ends past this
 abbrev pub beyond : ℕ

@@ -1,6 +1,6 @@
 -- What the entries that are listed say: each by the entries before it, and all of an accepted file (document 01, "Units", "The table";
 -- document 02, requests i and vii).
-use Rattle.std.specs.Prelude.{ℕ, suc, ◌+◌, ◌*◌, ◌≤◌, ◌<◌, ◌^◌, ◌≡◌, Bool, true, false, cond, eqb, ltb, length, drop, get_or}
+use Rattle.std.specs.Prelude.{ℕ, suc, ◌+◌, ◌*◌, ◌≤◌, ◌<◌, ◌^◌, ◌≡◌, Bool, true, false, cond, eqb, ltb, length, drop, get_or, Option, None}
 use mathlib.Core.List.{List, [], ◌∷◌, map, Memᴰ}
 use Rattle.laws.specs.Choice.{pick}
 use Rattle.laws.specs.Lists.{filter}
@@ -17,8 +17,6 @@ use Rattle.entry.specs.Entry.{block, code, content, plain, ranked, filled, is_ki
 use Rattle.walk.specs.Parents.{holds, holder, rank, held, Of}
 use Rattle.headers.specs.BlockHeader.{block_header_size, block_header_at, is_marked}
 use Rattle.headers.specs.Places.{image_place, image_chunk_place}
-use Rattle.attributes.specs.declared.fault.Fault.{Fault}
-use Rattle.attributes.specs.declared.fault.Fault.TheVariants.{None}
 use Rattle.attributes.specs.declared.image_attributes.ImageChunk.{ImageChunk}
 use Rattle.attributes.specs.Depth.{colour_short}
 use Rattle.attributes.specs.ImageAttributes.{image_at, image_fault, is_paletted}
@@ -118,7 +116,7 @@ announced_in s Alpha place = 0
 
 -- of what holds channels: the fault of its chunk, how many channels it announces, and the rectangle of a bitmap's planes, which are the
 -- saved ones; the user mask of a layer, bitmap 2, has the saved mask rectangle
-abbrev pub fault_in : List ℕ → Parent → ℕ → Fault
+abbrev pub fault_in : List ℕ → Parent → ℕ → Option ℕ
 fault_in s Layer place = layer_fault (depth_of s) (layer_from s place)
 fault_in s Selection place = selection_fault (selection_from s place)
 fault_in s Alpha place = alpha_fault (alpha_from s place)

@@ -10,8 +10,10 @@ use crate::question::{Found, Question};
 use crate::walker::{Out, siblings};
 use answer::Outcome;
 use entry::Entry;
+use headers::fields::Fields;
 use headers::file_header::FileHeader;
 use memory::{MAIN, State};
+use plain::Stretch;
 
 // No block of a permitted input ends past this: the input is at most 2^30 bytes, and a block's length has 32 bits.
 pub const BEYOND: usize = 8589934592;
@@ -21,26 +23,21 @@ fn walk(input: &[u8], room: usize, table: &mut [u32], question: Question) -> Out
     ensures { Walks input.now room table.old question result table.new }
 {
     let head = judge(input);
-    let answer = head.answer;
-    if !answer.accepted() {
+    if head.answer.is_err() {
         return Out {
             outcome: head,
             state: State::START,
             found: Found::NOTHING,
         };
     }
-    siblings(
+    let whole = Stretch {
         input,
-        State::START,
-        FileHeader::SIZE,
-        BEYOND,
-        MAIN,
+        at: FileHeader::SIZE,
+        end: BEYOND,
+        count: 0,
         room,
-        table,
-        0,
-        question,
-        Found::NOTHING,
-    )
+    };
+    siblings(whole, State::START, MAIN, question, Found::NOTHING, table)
 }
 
 // Lists an input into a table of 32-bit numbers, fourteen an entry, its room rounded down. Count entries stand in front of the table,
@@ -48,21 +45,15 @@ fn walk(input: &[u8], room: usize, table: &mut [u32], question: Question) -> Out
 pub fn list(input: &[u8], table: &mut [u32]) -> Outcome
     ensures { left_by result table.new ≡ lists input.now table.old }
 {
-    let room = table.len() / Entry::SIZE;
-    let o = walk(input, room, table, Question::IDLE);
-    let outcome = o.outcome;
-    outcome
+    list_up_to(input, usize::MAX, table)
 }
 
 // The same with a room for at most so many entries: the smaller of that and the table's own.
 pub fn list_up_to(input: &[u8], most: usize, table: &mut [u32]) -> Outcome
     ensures { left_by result table.new ≡ lists_up_to input.now most table.old }
 {
-    let whole = table.len() / Entry::SIZE;
-    let room = if most < whole { most } else { whole };
-    let o = walk(input, room, table, Question::IDLE);
-    let outcome = o.outcome;
-    outcome
+    let room = most.min(table.len() / Entry::SIZE);
+    walk(input, room, table, Question::IDLE).outcome
 }
 
 // The same listing with a room for so many entries and no table: the answer, and what was asked of the entries.
@@ -77,7 +68,5 @@ pub fn seek(input: &[u8], room: usize, question: Question) -> Out
 pub fn count(input: &[u8], room: usize) -> Outcome
     ensures { paper result ≡ told (listed input.now room) }
 {
-    let o = seek(input, room, Question::IDLE);
-    let outcome = o.outcome;
-    outcome
+    seek(input, room, Question::IDLE).outcome
 }

@@ -9,6 +9,7 @@ use entry::Entry;
 #[derive(Clone, Copy)]
 pub struct Question {
     pub id: u32,
+    // Stays: (a) it is compared with the entry's own number, which C sees (`skipped` of psp_entry), and `question` of specs/ takes a number.
     pub skipped: u32,
     pub index: usize,
 }
@@ -31,8 +32,7 @@ impl Question {
     fn asks(self, e: Entry) -> bool
         ensures { result ≡ is_asked self e }
     {
-        let block = e.block;
-        (block.id == self.id) & (block.skipped == self.skipped)
+        e.block.id == self.id && e.block.skipped == self.skipped
     }
 }
 
@@ -44,18 +44,21 @@ impl Found {
     };
 
     // With one entry more.
+    #[tactic(auto, unfolding(crate::specs::Question::noted, laws::specs::Choice::pick))]
     pub(crate) fn note(self, question: Question, e: Entry) -> Found
         requires { self.count + 1 < 2 ^ 64 }
         ensures { result ≡ noted question self e }
     {
-        if question.asks(e) {
-            let count = self.count + 1;
-            if self.count == question.index {
-                return Found { count, entry: e };
-            }
-            let entry = self.entry;
-            return Found { count, entry };
+        if !question.asks(e) {
+            return self;
         }
-        self
+        Found {
+            count: self.count + 1,
+            entry: if self.count == question.index {
+                e
+            } else {
+                self.entry
+            },
+        }
     }
 }

@@ -1,17 +1,19 @@
 // The walk: siblings are a loop that looks at one place a turn, and a block that holds blocks is entered and left again. Levels, then
 // bytes of the parent, fall. The stack is three levels deep whatever the input.
-ghost use Rattle.std.specs.Prelude.{◌≡◌, ◌-◌, ◌<◌, length};
+ghost use Rattle.std.specs.Prelude.{◌≡◌, ◌≢◌, ◌-◌, ◌<◌, ◌≤◌, None, IfSome, length};
 ghost use Rattle.walk.specs.Walk.{run};
 ghost use Rattle.walk.specs.Room.{Walked};
+ghost use Rattle.memory.specs.Parent.{main};
 ghost use Rattle.block.specs.Step.{step_at};
+ghost use Rattle.plain.specs.Layer.{HoldsPlain};
 ghost use Rattle.listing.specs.Question.{kept, put};
-ghost use Rattle.listing.specs.Walking.{Ready};
 
 use crate::question::{Found, Question};
-use answer::{Answer, Outcome};
+use answer::{Outcome, Stopped};
+use headers::kind::Kind;
 use kinds::Step;
 use memory::State;
-use plain::{held, in_bank, layer_entry, skips};
+use plain::{Layered, Stretch, held, in_bank, layer_entry, skips};
 
 // What a walk leaves: its answer, the state that it ended in, and what was asked of the entries.
 #[derive(Clone, Copy)]
@@ -21,7 +23,7 @@ pub struct Out {
     pub found: Found,
 }
 
-fn leave(answer: Answer, place: usize, count: usize, state: State, found: Found) -> Out
+fn leave(answer: Result<(), Stopped>, place: usize, count: usize, state: State, found: Found) -> Out
     ensures { result ≡ record { outcome = record { answer = answer; place = place; count = count }; state = state; found = found } }
 {
     Out {
@@ -35,70 +37,93 @@ fn leave(answer: Answer, place: usize, count: usize, state: State, found: Found)
     }
 }
 
+// The layer that stands here, where it is plain, passed with its channels; but for a question about channels, which is told of each.
+fn layer(
+    here: Stretch,
+    state: State,
+    levels: usize,
+    question: Question,
+    table: &mut [u32],
+) -> Option<Layered>
+    ensures plain { IfSome result (λ p. HoldsPlain here.entry.input.now state here.entry.at here.entry.end levels here.entry.room here.entry.count table.old p table.new × (0 < levels) × (question.id ≢ 5)) }
+    ensures other { result ≡ None → table.new ≡ table.old }
+{
+    if in_bank(state, levels) && question.id != Kind::Channel as u32 {
+        return held(here, state, table);
+    }
+    None
+}
+
 #[cycle(enter_siblings)]
 pub fn siblings(
-    s: &[u8],
+    stretch: Stretch,
     start: State,
-    first: usize,
-    end: usize,
     levels: usize,
-    room: usize,
-    table: &mut [u32],
-    from: usize,
     question: Question,
     known: Found,
+    table: &mut [u32],
 ) -> Out
-    requires { Ready s.now first end levels room from known }
-    ensures { Walked (put question) (run (step_at s.now) (length s.now) start first end levels) room from (kept table.old known) result.outcome result.state (kept table.new result.found) }
+    requires { (levels ≤ main) × (known.count ≤ stretch.count) }
+    ensures { Walked (put question) (run (step_at stretch.entry.input.now) (length stretch.entry.input.now) start stretch.entry.at stretch.entry.end levels) stretch.entry.room stretch.entry.count (kept table.old known) result.outcome result.state (kept table.new result.found) }
 {
+    let s = stretch.input;
+    let end = stretch.end;
+    let room = stretch.room;
     let mut state = start;
-    let mut at = first;
-    let mut count = from;
+    let mut at = stretch.at;
+    let mut count = stretch.count;
     let mut found = known;
     loop {
-        // A layer that is plain is passed with its channels, but for a question about channels, which is told of each. What else it holds is
-        // walked from behind them.
-        if in_bank(state, levels) & (question.id != 5) {
-            let number = state.members.found;
-            let p = held(s, state, at, end, room, table, count);
-            if p.plain {
-                found = found.note(question, layer_entry(at, number));
-                if p.complete() {
-                    state = p.state;
-                    at = p.after;
-                    count = p.count;
-                    continue;
-                }
-                let o = enter(
-                    s, p.state, p.at, p.after, levels, room, table, p.count, question, found,
-                );
-                let outcome = o.outcome;
-                let answer = outcome.answer;
-                if !answer.accepted() {
-                    return o;
-                }
-                state = o.state;
-                at = p.after;
-                count = outcome.count;
-                found = o.found;
+        let here = Stretch {
+            input: s,
+            at,
+            end,
+            count,
+            room,
+        };
+        if let Some(p) = layer(here, state, levels, question, table) {
+            found = found.note(question, layer_entry(at, state.members.found));
+            at = p.after;
+            if p.complete() {
+                state = p.state;
+                count = p.passed.count;
                 continue;
             }
+            // What else it holds is walked from behind its channels.
+            let inside = Stretch {
+                input: s,
+                at: p.passed.at,
+                end: p.after,
+                count: p.passed.count,
+                room,
+            };
+            let o = enter(inside, p.state, levels, question, found, table);
+            if o.outcome.answer.is_err() {
+                return o;
+            }
+            state = o.state;
+            count = o.outcome.count;
+            found = o.found;
+            continue;
         }
         match block::look(s, state, at, end, levels) {
-            Step::End => {
-                return leave(Answer::Accepted, at, count, state, found);
+            Ok(Step::End) => {
+                return leave(Ok(()), at, count, state, found);
             }
-            Step::Stop { refusal, place } => {
-                return leave(Answer::Refused(refusal), place, count, state, found);
+            Err(stop) => {
+                let answer = Err(Stopped::Rule(stop.refusal));
+                return leave(answer, stop.place, count, state, found);
             }
-            Step::Leaf {
-                entry,
-                next,
-                state: q,
-            } => {
+            Ok(
+                Step::Leaf {
+                    entry,
+                    next,
+                    state: q,
+                },
+            ) => {
                 // The table is full at the header of the first entry that has no room.
                 if count == room {
-                    return leave(Answer::TableFull, at, count, state, found);
+                    return leave(Err(Stopped::TableFull), at, count, state, found);
                 }
                 entry::store(table, count, entry);
                 found = found.note(question, entry);
@@ -106,43 +131,46 @@ pub fn siblings(
                 at = next;
                 count += 1;
                 // What is skipped tends to come in runs. A question about an id that no rule knows is told of each.
-                if (entry.block.skipped == 1) & (question.id < 12) {
-                    let p = skips(s, at, end, levels, question.id, room, table, count);
+                if entry.block.skipped == 1 && question.id < Kind::COUNT as u32 {
+                    let behind = Stretch {
+                        input: s,
+                        at,
+                        end,
+                        count,
+                        room,
+                    };
+                    let p = skips(behind, levels, question.id, table);
                     at = p.at;
                     count = p.count;
                 }
             }
-            Step::Nest {
-                entry,
-                inside,
-                state: q,
-                after,
-            } => {
+            Ok(
+                Step::Nest {
+                    entry,
+                    inside,
+                    state: q,
+                    after,
+                },
+            ) => {
                 if count == room {
-                    return leave(Answer::TableFull, at, count, state, found);
+                    return leave(Err(Stopped::TableFull), at, count, state, found);
                 }
                 entry::store(table, count, entry);
                 let noted = found.note(question, entry);
-                let o = enter(
-                    s,
-                    q,
-                    inside,
-                    after,
-                    levels,
+                let inside = Stretch {
+                    input: s,
+                    at: inside,
+                    end: after,
+                    count: count + 1,
                     room,
-                    table,
-                    count + 1,
-                    question,
-                    noted,
-                );
-                let outcome = o.outcome;
-                let answer = outcome.answer;
-                if !answer.accepted() {
+                };
+                let o = enter(inside, q, levels, question, noted, table);
+                if o.outcome.answer.is_err() {
                     return o;
                 }
                 state = o.state;
                 at = after;
-                count = outcome.count;
+                count = o.outcome.count;
                 found = o.found;
             }
         }
@@ -151,30 +179,15 @@ pub fn siblings(
 
 #[cycle(enter_siblings)]
 fn enter(
-    s: &[u8],
+    stretch: Stretch,
     start: State,
-    first: usize,
-    end: usize,
     levels: usize,
-    room: usize,
-    table: &mut [u32],
-    from: usize,
     question: Question,
     known: Found,
+    table: &mut [u32],
 ) -> Out
-    requires { (Ready s.now first end levels room from known) × (0 < levels) }
-    ensures { Walked (put question) (run (step_at s.now) (length s.now) start first end (levels - 1)) room from (kept table.old known) result.outcome result.state (kept table.new result.found) }
+    requires { (levels ≤ main) × (0 < levels) × (known.count ≤ stretch.count) }
+    ensures { Walked (put question) (run (step_at stretch.entry.input.now) (length stretch.entry.input.now) start stretch.entry.at stretch.entry.end (levels - 1)) stretch.entry.room stretch.entry.count (kept table.old known) result.outcome result.state (kept table.new result.found) }
 {
-    siblings(
-        s,
-        start,
-        first,
-        end,
-        levels - 1,
-        room,
-        table,
-        from,
-        question,
-        known,
-    )
+    siblings(stretch, start, levels - 1, question, known, table)
 }

@@ -6,13 +6,14 @@ use Prim.Native.Nat.{ℕ, ◌+◌, ◌≤◌}
 use native.Mathlib.Omega.{arith}
 use lib.ListN.{length, drop}
 use lib.Seq.{take-take}
+use Rattle.std.specs.Prelude.{Ok}
 use Rattle.laws.specs.Lists.{part}
 use Rattle.entry.specs.declared.Entry.{Entry}
 use Rattle.chunk.specs.AlphaInformation.{alpha_size, alpha_of, alpha_at}
 use Rattle.chunk.specs.SelectionInformation.{selection_size}
 use Rattle.listing.specs.Question.{question}
 use Rattle.listing.specs.Right.{SelectionRight, AlphaRight}
-use Rattle.view.specs.declared.sought.Sought.TheVariants.{At}
+use Rattle.view.specs.declared.not_shown.Lacking.TheVariants.{Selection, Alpha}
 use Rattle.view.specs.Asked.{asked, is_there}
 use Rattle.view.proofs.Accepted.{kind, so_many, found_listed}
 use Rattle.view.proofs.Asked.{sought_at}
@@ -26,8 +27,8 @@ module _ (s : List ℕ) (room : ℕ) where
       let l = found_listed s room (question 6 0 0) there in
       l.right.kind 6 (sym (kind 6 0 (asked (question 6 0 0) s room).entry) ∙ l.asks)
 
-  pub selection_inside : {at : ℕ} → selection_sought s room ≡ At at → at + selection_size ≤ length s
-  selection_inside e = let found = sought_at s room 6 46 0 e in omega (arith, (selection_has found.0).only.inside, found.1)
+  pub selection_inside : {at : ℕ} → selection_sought s room ≡ Ok at → at + selection_size ≤ length s
+  selection_inside e = let found = sought_at s room 6 Selection 0 e in omega (arith, (selection_has found.0).only.inside, found.1)
 
   module _ (k : ℕ) where
     pub alpha_has :
@@ -43,8 +44,8 @@ module _ (s : List ℕ) (room : ℕ) where
         let l = found_listed s room (question 8 0 k) there in
         ap (λ (e : Entry). e.layer) (alpha_has there).is ∙ sym (so_many 8 k l.before) ∙ l.index
 
-    pub alpha_inside : {at : ℕ} → alpha_sought s room k ≡ At at → at + alpha_size ≤ length s
-    alpha_inside e = let found = sought_at s room 8 47 k e in omega (arith, (alpha_has found.0).inside, found.1)
+    pub alpha_inside : {at : ℕ} → alpha_sought s room k ≡ Ok at → at + alpha_size ≤ length s
+    alpha_inside e = let found = sought_at s room 8 Alpha k e in omega (arith, (alpha_has found.0).inside, found.1)
 
 -- the name that an alpha channel's facts have is the part that is shown up to its first zero
 pub alpha_name_field : (s : List ℕ) (at : ℕ) → (alpha_at s at).name ≡ part s at 256

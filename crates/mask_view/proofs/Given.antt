@@ -5,7 +5,8 @@ use mathlib.Core.Bool.{true}
 use mathlib.Core.List.{List}
 use Prim.Native.Nat.{ℕ, ◌+◌, ◌<◌}
 use lib.ListN.{length, get_or}
-use Rattle.answer.specs.declared.Answer.TheVariants.{Accepted}
+use Rattle.std.specs.Prelude.{Ok}
+use Rattle.answer.specs.Answers.{Accepted}
 use Rattle.entry.specs.declared.Entry.{Entry}
 use Rattle.headers.specs.BlockHeader.{block_header_size}
 use Rattle.chunk.specs.AlphaInformation.{alpha_size}
@@ -13,7 +14,7 @@ use Rattle.chunk.specs.SelectionInformation.{selection_size}
 use Rattle.listing.specs.Listing.{listed}
 use Rattle.listing.specs.Right.{is_selection, is_alpha, selection_from, alpha_from}
 use Rattle.listing.proofs.RightEntries.{each_right, alphas_numbered}
-use Rattle.view.specs.declared.sought.Sought.TheVariants.{At}
+use Rattle.view.specs.declared.not_shown.Lacking.TheVariants.{Selection, Alpha}
 use Rattle.view.specs.Name.{name_at, name_of}
 use Rattle.view.proofs.Given.{entry_stands, entry_sought}
 use Rattle.mask_view.specs.Sought.{alpha_sought}
@@ -31,8 +32,8 @@ module _ (s : List ℕ) (room k : ℕ) (d : Entry) (low : k < length (listed s r
   -- ### The selection
 
   module _ (is : is_selection e ≡ true) where
-    selection_stands : selection_here s place ≡ At (place + block_header_size)
-    selection_stands = entry_stands s room k d low 6 selection_size 46 is ((each_right s room k d low).kind 6 is).only.inside
+    selection_stands : selection_here s place ≡ Ok (place + block_header_size)
+    selection_stands = entry_stands s room k d low 6 selection_size Selection is ((each_right s room k d low).kind 6 is).only.inside
 
     pub selection_at_listed : selection_facts_at s place ≡ record { number = 0; selection = selection_from s place }
     unfolding selection_facts_at
@@ -44,13 +45,13 @@ module _ (s : List ℕ) (room k : ℕ) (d : Entry) (low : k < length (listed s r
     selection_at_accepted good =
         let only = ((each_right s room k d low).kind 6 is).only in
         ap (selection_facts_of s)
-        (entry_sought s room k d low 6 selection_size 46 is only.inside 0 (ap (λ (l : List Entry). length l) only.once) good)
+        (entry_sought s room k d low 6 selection_size Selection is only.inside 0 (ap (λ (l : List Entry). length l) only.once) good)
 
   -- ### An alpha channel
 
   module _ (is : is_alpha e ≡ true) where
-    alpha_stands : alpha_here s place ≡ At (place + block_header_size)
-    alpha_stands = entry_stands s room k d low 8 alpha_size 47 is ((each_right s room k d low).kind 8 is).inside
+    alpha_stands : alpha_here s place ≡ Ok (place + block_header_size)
+    alpha_stands = entry_stands s room k d low 8 alpha_size Alpha is ((each_right s room k d low).kind 8 is).inside
 
     pub alpha_at_listed : alpha_facts_at s place ≡ record { number = 0; alpha = alpha_from s place }
     unfolding alpha_facts_at
@@ -63,7 +64,7 @@ module _ (s : List ℕ) (room k : ℕ) (d : Entry) (low : k < length (listed s r
     module _ (good : (listed s room).answer ≡ Accepted) where
       alpha_sought_lem : alpha_sought s room e.layer ≡ alpha_here s place
       alpha_sought_lem =
-          entry_sought s room k d low 8 alpha_size 47 is ((each_right s room k d low).kind 8 is).inside e.layer
+          entry_sought s room k d low 8 alpha_size Alpha is ((each_right s room k d low).kind 8 is).inside e.layer
           (sym (alphas_numbered s room k d low is)) good
 
       pub alpha_at_accepted : alpha_facts s room e.layer ≡ alpha_facts_at s place

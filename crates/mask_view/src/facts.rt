@@ -1,14 +1,10 @@
 // Facts are whole chunks in the caller's own record. Beside a refusal they are zeros.
 ghost use Rattle.std.specs.Prelude.{◌≡◌};
-ghost use Rattle.chunk.specs.AlphaInformation.{alpha_size};
-ghost use Rattle.chunk.specs.SelectionInformation.{selection_size};
-ghost use Rattle.view.specs.Asked.{Inside};
-ghost use Rattle.mask_view.specs.Facts.{selection_facts, selection_facts_of, alpha_facts, alpha_facts_of};
+ghost use Rattle.mask_view.specs.Facts.{selection_told, alpha_told, selection_facts, alpha_facts};
 
-use crate::zeros::{no_alpha, no_selection};
 use chunk::alpha_information::AlphaChunk;
 use chunk::selection_information::SelectionChunk;
-use view::{Sought, seek_chunk};
+use view::{NotShown, seek};
 
 #[repr(C)]
 #[derive(Clone, Copy)]
@@ -24,52 +20,49 @@ pub struct AlphaFacts {
     pub alpha: AlphaChunk,
 }
 
+impl From<Result<SelectionChunk, NotShown>> for SelectionFacts {
+    ghost from_gives = { λ seen facts. facts ≡ selection_told seen };
+
+    fn from(seen: Result<SelectionChunk, NotShown>) -> SelectionFacts {
+        match seen {
+            Ok(selection) => SelectionFacts {
+                number: 0,
+                selection,
+            },
+            Err(not_shown) => SelectionFacts {
+                number: not_shown.into(),
+                selection: SelectionChunk::default(),
+            },
+        }
+    }
+}
+
+impl From<Result<AlphaChunk, NotShown>> for AlphaFacts {
+    ghost from_gives = { λ seen facts. facts ≡ alpha_told seen };
+
+    fn from(seen: Result<AlphaChunk, NotShown>) -> AlphaFacts {
+        match seen {
+            Ok(alpha) => AlphaFacts { number: 0, alpha },
+            Err(not_shown) => AlphaFacts {
+                number: not_shown.into(),
+                alpha: AlphaChunk::default(),
+            },
+        }
+    }
+}
+
 // The listing's own number; then 46: no selection.
+#[tactic(auto, unfolding(crate::specs::Facts::selection_facts))]
 pub fn selection_facts(input: &[u8], room: usize) -> SelectionFacts
     ensures { result ≡ selection_facts input.now room }
 {
-    let sought = seek_chunk(input, room, 6, 46, 0);
-    selection_facts_of(input, sought)
-}
-
-// Of a selection's chunk, however it was sought.
-pub fn selection_facts_of(input: &[u8], sought: Sought) -> SelectionFacts
-    requires { Inside selection_size input.now sought }
-    ensures { result ≡ selection_facts_of input.now sought }
-{
-    match sought {
-        Sought::Refused(number) => SelectionFacts {
-            number,
-            selection: no_selection(),
-        },
-        Sought::At(at) => SelectionFacts {
-            number: 0,
-            selection: SelectionChunk::decode(input, at),
-        },
-    }
+    seek::<SelectionChunk>(input, room, 0).into()
 }
 
 // Alpha channels count from 0 in file order. The listing's own number; then 47: no alpha channel k.
+#[tactic(auto, unfolding(crate::specs::Facts::alpha_facts))]
 pub fn alpha_facts(input: &[u8], room: usize, k: u32) -> AlphaFacts
     ensures { result ≡ alpha_facts input.now room k }
 {
-    let sought = seek_chunk(input, room, 8, 47, k);
-    alpha_facts_of(input, sought)
-}
-
-// Of an alpha channel's chunk, however it was sought.
-pub fn alpha_facts_of(input: &[u8], sought: Sought) -> AlphaFacts
-    requires { Inside alpha_size input.now sought }
-    ensures { result ≡ alpha_facts_of input.now sought }
-{
-    match sought {
-        Sought::Refused(number) => AlphaFacts {
-            number,
-            alpha: no_alpha(),
-        },
-        Sought::At(at) => AlphaFacts {
-            number: 0,
-            alpha: AlphaChunk::decode(input, at),
-        },
-    }
+    seek::<AlphaChunk>(input, room, k).into()
 }

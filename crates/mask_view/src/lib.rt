@@ -6,7 +6,6 @@
 mod at;
 mod facts;
 mod names;
-mod zeros;
 
 pub use at::{alpha_at, alpha_name_at, selection_at};
 pub use facts::{AlphaFacts, SelectionFacts, alpha_facts, selection_facts};

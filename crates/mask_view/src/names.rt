@@ -2,23 +2,20 @@
 ghost use Rattle.std.specs.Prelude.{◌≡◌};
 ghost use Rattle.mask_view.specs.Name.{alpha_name_view, AlphaNameShown};
 
-use view::{Part, name_of, seek_chunk};
+use chunk::alpha_information::AlphaChunk;
+use view::{NotShown, Part, seek_name, show_name};
 
 // Where the bytes of alpha channel k's name are. The listing's own number; then 47: no alpha channel k.
+#[tactic(auto, unfolding(crate::specs::Name::alpha_name_view))]
 pub fn alpha_name_part(input: &[u8], room: usize, k: u32) -> Part
     ensures { result ≡ alpha_name_view input.now room k }
 {
-    let sought = seek_chunk(input, room, 8, 47, k);
-    name_of(input, sought)
+    seek_name::<AlphaChunk>(input, room, k).into()
 }
 
-// Shows that part; a refusal shows nothing, at the input's start.
-pub fn alpha_name<'a>(input: &'a [u8], room: usize, k: u32, number: &mut u32) -> &'a [u8]
-    ensures { AlphaNameShown input.entry room k number.new result }
+// The bytes of alpha channel k's name.
+pub fn alpha_name<'a>(input: &'a [u8], room: usize, k: u32) -> Result<&'a [u8], NotShown>
+    ensures { AlphaNameShown input.entry room k result }
 {
-    let part = alpha_name_part(input, room, k);
-    let start = part.start;
-    let length = part.length;
-    *number = part.number;
-    &input[start..start + length]
+    show_name::<AlphaChunk>(input, room, k)
 }

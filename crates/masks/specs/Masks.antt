@@ -1,8 +1,7 @@
 -- A selection, an alpha bank and its alpha channels, once a header has passed: the chunk, then what is inside (document 02, request vii). `at` is
 -- the header's place. Their channels are in the crate `layers`.
-use Rattle.std.specs.Prelude.{ℕ, List}
+use Rattle.std.specs.Prelude.{ℕ, List, None}
 use Rattle.entry.specs.Entry.{block, plain, ranked}
-use Rattle.attributes.specs.declared.fault.Fault.TheVariants.{None}
 use Rattle.chunk.specs.AlphaBankInformation.{alpha_bank_size, alpha_bank_of}
 use Rattle.chunk.specs.AlphaInformation.{alpha_size, alpha_of, alpha_fault}
 use Rattle.chunk.specs.Heads.{selection_head, alpha_bank_head, alpha_head}

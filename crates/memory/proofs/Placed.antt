@@ -1,13 +1,14 @@
 -- What a place says of its block, by what becomes of it: refused, entered or skipped. The rules' promises go by these cases.
 use mathlib.Core.Path.{◌≡◌, refl}
-use mathlib.Core.Bool.{Bool, true, false, ◌&&◌, ◌||◌}
+use mathlib.Core.Bool.{true, false, ◌&&◌, ◌||◌}
 use Prim.Native.Nat.{ℕ}
 use native.Mathlib.Omega.{arith}
 use borrow.Author.Tests.{eqb-true, eqb-false, leb-true}
 use lib.Dec.{eqb, leb}
+use Rattle.std.proofs.lemmas.Bool.Decides.{nat_tests}
 use Rattle.laws.specs.Choice.{pick}
 use Rattle.laws.proofs.Choice.{pick_ind}
-use Rattle.laws.proofs.Tests.{both, either, neither, other_not}
+use Rattle.laws.proofs.Tests.{both, either}
 use Rattle.memory.specs.declared.parent.Parent.{Parent}
 use Rattle.memory.specs.declared.parent.Parent.TheVariants.{Main, Bank, Layer, Selection, AlphaBank, Alpha}
 use Rattle.memory.specs.declared.places.Placing.{Placing}
@@ -35,53 +36,23 @@ pub data Placed (st : State) (id : ℕ) : Parent → Placing → Type 0 where
 module _ (st : State) (id : ℕ) (begun : Begun st) where
   -- at the main level, what is not barred
   module _ (free : is_barred st id ≡ false) (used : is_unused st id ≡ false) where
-    abbrev image_or_palette : Bool
-    image_or_palette = eqb id 0 || (eqb id 2 && st.met.palette)
-
-    abbrev or_bank : Bool
-    or_bank = image_or_palette || (eqb id 3 && st.met.bank)
-
-    abbrev or_thumbnail : Bool
-    or_thumbnail = or_bank || (eqb id 9 && st.met.bank)
-
-    abbrev or_selection : Bool
-    or_selection = or_thumbnail || (eqb id 6 && st.met.selection)
-
-    -- the last one is barred, or one of those before it
-    no_alphas : (or_selection ≡ false) × ((eqb id 7 && st.met.alphas) ≡ false)
-    no_alphas = neither or_selection _ free
-
-    no_selection_lem : (or_thumbnail ≡ false) × ((eqb id 6 && st.met.selection) ≡ false)
-    no_selection_lem = neither or_thumbnail _ no_alphas.0
-
-    no_bank : (image_or_palette ≡ false) × ((eqb id 3 && st.met.bank) ≡ false)
-    no_bank = neither image_or_palette _ (neither or_bank _ no_selection_lem.0).0
-
-    no_palette : (eqb id 0 ≡ false) × ((eqb id 2 && st.met.palette) ≡ false)
-    no_palette = neither (eqb id 0) _ no_bank.0
-
     entered : (eqb id 0 || eqb id 2 || eqb id 3 || eqb id 6 || eqb id 7) ≡ true → Placed st id Main Enter
     entered h =
         either (eqb id 0 || eqb id 2 || eqb id 3 || eqb id 6) (eqb id 7) h
         (λ h. either (eqb id 0 || eqb id 2 || eqb id 3) (eqb id 6) h
         (λ h. either (eqb id 0 || eqb id 2) (eqb id 3) h
         (λ h. either (eqb id 0) (eqb id 2) h
-        (λ e. absurd (eqb-false id 0 no_palette.0 (eqb-true id 0 e)))
-        (λ e. palette begun (eqb-true id 2 e) (other_not (eqb id 2) _ no_palette.1 e) (eqb-false st.image.depth 24 (other_not (eqb id 2) _ used e))))
-        (λ e. bank begun (eqb-true id 3 e) (other_not (eqb id 3) _ no_bank.1 e)))
-        (λ e. selection begun (eqb-true id 6 e) (other_not (eqb id 6) _ no_selection_lem.1 e)))
-        (λ e. alpha_bank begun (eqb-true id 7 e) (other_not (eqb id 7) _ no_alphas.1 e))
+        (λ e. absurd (grind (arith, nat_tests)))
+        (λ e. palette begun (eqb-true id 2 e) (grind (arith, nat_tests)) (eqb-false st.image.depth 24 (grind (arith, nat_tests)))))
+        (λ e. bank begun (eqb-true id 3 e) (grind (arith, nat_tests))))
+        (λ e. selection begun (eqb-true id 6 e) (grind (arith, nat_tests))))
+        (λ e. alpha_bank begun (eqb-true id 7 e) (grind (arith, nat_tests)))
 
     in_main : Placed st id Main (grid_of id Main)
     unfolding grid_of
     in_main =
         pick_ind (Placed st id Main) _ _ _ (λ h. entered h) (λ other. pick_ind (Placed st id Main) _ _ _ (λ _. refused) (λ _. skip begun (λ two.
-        absurd (eqb-false id 2 (not_two other) two))))
-      where
-        not_two : (eqb id 0 || eqb id 2 || eqb id 3 || eqb id 6 || eqb id 7) ≡ false → eqb id 2 ≡ false
-        not_two other =
-            let k = (neither (eqb id 0 || eqb id 2 || eqb id 3) (eqb id 6) (neither _ (eqb id 7) other).0).0 in
-            (neither (eqb id 0) (eqb id 2) (neither (eqb id 0 || eqb id 2) (eqb id 3) k).0).1
+        grind (arith, nat_tests))))
 
   in_bank : Placed st id Bank (grid_of id Bank)
   unfolding grid_of

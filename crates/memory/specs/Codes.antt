@@ -1,8 +1,23 @@
 -- The codes of channels (document 01, "Channel, id 5": expected; "Ends"; document 02, request vii).
-use Rattle.std.specs.Prelude.{ℕ, Bool, false, ◌&&◌, ◌||◌, not, eqb, leb}
+use Rattle.std.specs.Prelude.{ℕ, ◌≡◌, ◌<◌, Option, MatchOption, Bool, false, ◌&&◌, ◌||◌, not, eqb, leb}
+use Rattle.memory.specs.declared.codes.Code.{Code}
+use Rattle.memory.specs.declared.codes.Code.TheVariants.{Composite, Red, Green, Blue, Transparency, User}
 use Rattle.memory.specs.declared.codes.Codes.{Codes}
 use Rattle.memory.specs.declared.parent.Parent.{Parent}
 use Rattle.memory.specs.declared.parent.Parent.TheVariants.{Main, Bank, Layer, Selection, AlphaBank, Alpha}
+
+-- a bitmap and a channel name a channel of a layer; of a mask the bitmap alone does
+abbrev pub HasPair : ℕ → ℕ → Code → Type 0
+HasPair bitmap channel Composite = (bitmap ≡ 0) × (channel ≡ 0)
+HasPair bitmap channel Red = (bitmap ≡ 0) × (channel ≡ 1)
+HasPair bitmap channel Green = (bitmap ≡ 0) × (channel ≡ 2)
+HasPair bitmap channel Blue = (bitmap ≡ 0) × (channel ≡ 3)
+HasPair bitmap channel Transparency = bitmap ≡ 1
+HasPair bitmap channel User = bitmap ≡ 2
+
+-- the channel that they name, or none
+abbrev pub IsCodeOf : ℕ → ℕ → Option Code → Type 0
+IsCodeOf bitmap channel r = MatchOption r ((0 < bitmap → 2 < bitmap) × (bitmap ≡ 0 → 3 < channel)) (HasPair bitmap channel)
 
 -- in a layer: colours are bitmap 0, channels 1 to 3 at depth 24, else 0; masks have channel 0
 abbrev pub is_of_layer : ℕ → ℕ → ℕ → Bool

@@ -1,10 +1,21 @@
 // The bitmap and channel codes of channels: which are expected by what holds them, and which have come.
 ghost use Rattle.std.specs.Prelude.{◌≡◌};
-ghost use Rattle.memory.specs.Codes.{is_of_layer, is_expected, has_codes, with_codes, has_colours};
+ghost use Rattle.memory.specs.Codes.{IsCodeOf, is_of_layer, is_expected, has_codes, with_codes, has_colours};
 
 use crate::parent::Parent;
 
-// A layer's channel of each code has come: bitmap 0 with channels 0 to 3, bitmap 1, bitmap 2.
+// A channel that a layer can have: of bitmap 0 channels 0 to 3, bitmap 1, bitmap 2.
+#[derive(Clone, Copy)]
+enum Code {
+    Composite,
+    Red,
+    Green,
+    Blue,
+    Transparency,
+    User,
+}
+
+// A layer's channel of each code has come.
 #[derive(Clone, Copy)]
 pub struct Codes {
     pub composite: bool,
@@ -15,13 +26,33 @@ pub struct Codes {
     pub user: bool,
 }
 
+impl Code {
+    // Of a mask by its bitmap alone.
+    fn of(bitmap: u16, channel: u16) -> Option<Code>
+        ensures { IsCodeOf bitmap channel result }
+    {
+        match (bitmap, channel) {
+            (0, 0) => Some(Code::Composite),
+            (0, 1) => Some(Code::Red),
+            (0, 2) => Some(Code::Green),
+            (0, 3) => Some(Code::Blue),
+            (1, _) => Some(Code::Transparency),
+            (2, _) => Some(Code::User),
+            _ => None,
+        }
+    }
+}
+
 // In a layer colours are bitmap 0: channels 1 to 3 at depth 24, else 0. Masks have channel 0.
 fn of_layer(depth: u16, bitmap: u16, channel: u16) -> bool
     ensures { result ≡ is_of_layer depth bitmap channel }
 {
-    ((bitmap == 0)
-        & (((depth == 24) & (1 <= channel) & (channel <= 3)) | ((depth != 24) & (channel == 0))))
-        | (((bitmap == 1) | (bitmap == 2)) & (channel == 0))
+    match Code::of(bitmap, channel) {
+        Some(Code::Composite) => depth != 24,
+        Some(Code::Red | Code::Green | Code::Blue) => depth == 24,
+        Some(Code::Transparency | Code::User) => channel == 0,
+        None => false,
+    }
 }
 
 // By what holds the channel.
@@ -30,11 +61,9 @@ pub fn expected(parent: Parent, depth: u16, bitmap: u16, channel: u16) -> bool
 {
     match parent {
         Parent::Layer => of_layer(depth, bitmap, channel),
-        Parent::Selection => (bitmap == 3) & (channel == 0),
-        Parent::Alpha => (bitmap == 4) & (channel == 0),
-        Parent::Main => false,
-        Parent::Bank => false,
-        Parent::AlphaBank => false,
+        Parent::Selection => (bitmap, channel) == (3, 0),
+        Parent::Alpha => (bitmap, channel) == (4, 0),
+        Parent::Main | Parent::Bank | Parent::AlphaBank => false,
     }
 }
 
@@ -52,43 +81,40 @@ impl Codes {
     pub fn has(self, bitmap: u16, channel: u16) -> bool
         ensures { result ≡ has_codes self bitmap channel }
     {
-        match bitmap {
-            0 => match channel {
-                0 => self.composite,
-                1 => self.red,
-                2 => self.green,
-                3 => self.blue,
-                _ => false,
-            },
-            1 => self.transparency,
-            2 => self.user,
-            _ => false,
+        match Code::of(bitmap, channel) {
+            Some(Code::Composite) => self.composite,
+            Some(Code::Red) => self.red,
+            Some(Code::Green) => self.green,
+            Some(Code::Blue) => self.blue,
+            Some(Code::Transparency) => self.transparency,
+            Some(Code::User) => self.user,
+            None => false,
         }
     }
 
-    pub fn with(self, bitmap: u16, channel: u16) -> Codes
+    pub fn with(mut self, bitmap: u16, channel: u16) -> Codes
         ensures { result ≡ with_codes self bitmap channel }
     {
-        let mut codes = self;
-        match bitmap {
-            0 => match channel {
-                0 => codes.composite = true,
-                1 => codes.red = true,
-                2 => codes.green = true,
-                3 => codes.blue = true,
-                _ => {}
-            },
-            1 => codes.transparency = true,
-            2 => codes.user = true,
-            _ => {}
+        match Code::of(bitmap, channel) {
+            Some(Code::Composite) => self.composite = true,
+            Some(Code::Red) => self.red = true,
+            Some(Code::Green) => self.green = true,
+            Some(Code::Blue) => self.blue = true,
+            Some(Code::Transparency) => self.transparency = true,
+            Some(Code::User) => self.user = true,
+            None => {}
         }
-        codes
+        self
     }
 
     // All colour channels of a layer have come.
     pub fn coloured(self, depth: u16) -> bool
         ensures { result ≡ has_colours self depth }
     {
-        ((depth == 24) & self.red & self.green & self.blue) | ((depth != 24) & self.composite)
+        if depth == 24 {
+            self.red & self.green & self.blue
+        } else {
+            self.composite
+        }
     }
 }

@@ -5,7 +5,8 @@ ghost use Rattle.memory.specs.Parent.{outer, inner, parent_at, column_of};
 // Levels left to enter: 2 at the main level, 1 in what a main block holds, 0 in what that holds.
 pub const MAIN: usize = 2;
 
-#[derive(Clone, Copy)]
+// In the order of the columns of the place grid.
+#[derive(Clone, Copy, PartialEq, Eq)]
 pub enum Parent {
     Main,
     Bank,
@@ -16,7 +17,7 @@ pub enum Parent {
 }
 
 // The main block whose inside is walked, by what it holds: layers, a mask's channel, alpha channels. At the main level it is the last one.
-#[derive(Clone, Copy)]
+#[derive(Clone, Copy, PartialEq, Eq)]
 pub enum Open {
     Layers,
     Mask,
@@ -47,30 +48,25 @@ impl Open {
 }
 
 impl Parent {
+    // How many there are, so that each has a column of the place grid.
+    pub(crate) const COUNT: usize = 6;
+
     // What holds the blocks of a level, by the levels that are left below it.
+    #[tactic(auto, unfolding(crate::specs::Parent::parent_at, laws::specs::Choice::pick))]
     pub fn at(opened: Open, levels: usize) -> Parent
         ensures { result ≡ parent_at opened levels }
     {
-        if levels == MAIN {
-            return Parent::Main;
+        match levels {
+            MAIN => Parent::Main,
+            1 => opened.outer(),
+            _ => opened.inner(),
         }
-        if levels == 1 {
-            return opened.outer();
-        }
-        opened.inner()
     }
 
     // Its column of the place grid.
     pub(crate) fn column(self) -> usize
         ensures { (result ≡ column_of self) × (result < 6) }
     {
-        match self {
-            Parent::Main => 0,
-            Parent::Bank => 1,
-            Parent::Layer => 2,
-            Parent::Selection => 3,
-            Parent::AlphaBank => 4,
-            Parent::Alpha => 5,
-        }
+        self as usize
     }
 }

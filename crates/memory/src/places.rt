@@ -1,103 +1,84 @@
-// The place rules: a fixed grid of twelve ids by what holds the block, and beside it what depends on the blocks that came before.
+// The place rules: a fixed grid of twelve kinds by what holds the block, and beside it what depends on the blocks that came before.
 ghost use Rattle.std.specs.Prelude.{◌≡◌, ◌<◌};
+ghost use Rattle.headers.specs.Kind.{id_of};
 ghost use Rattle.memory.specs.Place.{grid_of, is_barred, is_unused, place_of};
-ghost use Rattle.memory.specs.Parent.{is_main};
 
 use crate::parent::Parent;
+use crate::places::Placing::{Enter, Refuse, Skip};
 use crate::state::State;
+use headers::kind::Kind;
 
-// What becomes of a block.
+// What becomes of a block, by its number in the grid.
 #[derive(Clone, Copy)]
 pub enum Placing {
-    Refuse,
-    Enter,
-    Skip,
+    Refuse = 0,
+    Enter = 1,
+    Skip = 2,
 }
 
-// 0 refuses a block, 1 enters it, 2 skips it. A row for each id: at the main level, in the bank, in a layer, in a selection, in the alpha
-// bank, in an alpha channel.
-const GRID: [u8; 72] = [
-    1, 0, 0, 0, 0, 0, // 0 image
-    2, 0, 0, 0, 0, 0, // 1 creator
-    1, 0, 0, 0, 0, 0, // 2 palette
-    1, 0, 0, 0, 0, 0, // 3 bank
-    0, 1, 0, 0, 0, 0, // 4 layer
-    0, 0, 1, 1, 0, 1, // 5 channel
-    1, 0, 0, 0, 0, 0, // 6 selection
-    1, 0, 0, 0, 0, 0, // 7 alpha bank
-    0, 0, 0, 0, 1, 0, // 8 alpha channel
-    2, 0, 0, 0, 0, 0, // 9 thumbnail
-    2, 0, 0, 0, 0, 0, // 10 extended
-    2, 0, 0, 0, 0, 0, // 11 tube
+// A row for each kind: at the main level, in the bank, in a layer, in a selection, in the alpha bank, in an alpha channel.
+// A static, since a constant of enums would be stored anew at each look.
+static GRID: [[Placing; Parent::COUNT]; Kind::COUNT] = [
+    [Enter, Refuse, Refuse, Refuse, Refuse, Refuse], // image
+    [Skip, Refuse, Refuse, Refuse, Refuse, Refuse], // creator
+    [Enter, Refuse, Refuse, Refuse, Refuse, Refuse], // palette
+    [Enter, Refuse, Refuse, Refuse, Refuse, Refuse], // bank
+    [Refuse, Enter, Refuse, Refuse, Refuse, Refuse], // layer
+    [Refuse, Refuse, Enter, Enter, Refuse, Enter], // channel
+    [Enter, Refuse, Refuse, Refuse, Refuse, Refuse], // selection
+    [Enter, Refuse, Refuse, Refuse, Refuse, Refuse], // alpha bank
+    [Refuse, Refuse, Refuse, Refuse, Enter, Refuse], // alpha channel
+    [Skip, Refuse, Refuse, Refuse, Refuse, Refuse], // thumbnail
+    [Skip, Refuse, Refuse, Refuse, Refuse, Refuse], // extended
+    [Skip, Refuse, Refuse, Refuse, Refuse, Refuse], // tube
 ];
 
-fn grid(id: u16, parent: Parent) -> Placing
-    requires { id < 12 }
-    ensures { result ≡ grid_of id parent }
+#[tactic(auto, unfolding(crate::specs::Place::grid_of, laws::specs::Choice::pick))]
+fn grid(kind: Kind, parent: Parent) -> Placing
+    ensures { result ≡ grid_of (id_of kind) parent }
 {
-    let i = (id as usize) * 6 + parent.column();
-    let number = GRID[i];
-    match number {
-        0 => Placing::Refuse,
-        1 => Placing::Enter,
-        _ => Placing::Skip,
-    }
-}
-
-fn is_main(parent: Parent) -> bool
-    ensures { result ≡ is_main parent }
-{
-    match parent {
-        Parent::Main => true,
-        Parent::Bank => false,
-        Parent::Layer => false,
-        Parent::Selection => false,
-        Parent::AlphaBank => false,
-        Parent::Alpha => false,
-    }
+    GRID[usize::from(kind)][parent.column()]
 }
 
 // What was met before bars a main block.
-fn barred(st: State, id: u16) -> bool
-    ensures { result ≡ is_barred st id }
+fn barred(st: State, kind: Kind) -> bool
+    ensures { result ≡ is_barred st (id_of kind) }
 {
-    let met = st.met;
-    (id == 0)
-        | ((id == 2) & met.palette)
-        | ((id == 3) & met.bank)
-        | ((id == 9) & met.bank)
-        | ((id == 6) & met.selection)
-        | ((id == 7) & met.alphas)
+    match kind {
+        Kind::Image => true,
+        Kind::Palette => st.met.palette,
+        Kind::Bank | Kind::Thumbnail => st.met.bank,
+        Kind::Selection => st.met.selection,
+        Kind::AlphaBank => st.met.alphas,
+        _ => false,
+    }
 }
 
 // A palette at depth 24.
-fn unused(st: State, id: u16) -> bool
-    ensures { result ≡ is_unused st id }
+fn unused(st: State, kind: Kind) -> bool
+    ensures { result ≡ is_unused st (id_of kind) }
 {
-    let image = st.image;
-    (id == 2) & (image.depth == 24)
+    (kind == Kind::Palette) & (st.image.depth == 24)
 }
 
 // What becomes of a block of this id there.
+#[tactic(auto, unfolding(crate::specs::Place::place_of, laws::specs::Choice::pick))]
 pub fn place(st: State, id: u16, parent: Parent) -> Placing
     ensures { result ≡ place_of st id parent }
 {
-    let image = st.image;
-    if image.depth == 0 {
-        if id == 0 {
-            return Placing::Enter;
+    if st.image.depth == 0 {
+        return if id == 0 { Enter } else { Refuse };
+    }
+    let Ok(kind) = Kind::try_from(id) else {
+        return Skip;
+    };
+    if parent == Parent::Main {
+        if barred(st, kind) {
+            return Refuse;
         }
-        return Placing::Refuse;
+        if unused(st, kind) {
+            return Skip;
+        }
     }
-    if 12 <= id {
-        return Placing::Skip;
-    }
-    let main = is_main(parent);
-    if main & barred(st, id) {
-        return Placing::Refuse;
-    }
-    if main & unused(st, id) {
-        return Placing::Skip;
-    }
-    grid(id, parent)
+    grid(kind, parent)
 }

@@ -1,7 +1,7 @@
 // What the rules remember from block to block. It goes in by value and comes back by value, and knows no place.
-ghost use Rattle.std.specs.Prelude.{◌≡◌, ◌≤◌, ◌<◌};
+ghost use Rattle.std.specs.Prelude.{◌≡◌, ℕ, ◌≤◌, ◌<◌};
 ghost use Rattle.chunk.specs.Rules.{LayerRules, MaskRules};
-ghost use Rattle.memory.specs.State.{announced_by, with_image, with_palette, with_bank, with_alpha_bank, layer_by, mask_by, with_selection, with_member, with_layer, with_alpha, channel_by, with_channel, shape_for, is_surplus, is_full};
+ghost use Rattle.memory.specs.State.{members_of, found_one, announced_by, with_image, with_palette, with_bank, with_alpha_bank, layer_by, mask_by, with_selection, with_member, with_layer, with_alpha, channel_by, with_channel, shape_for, is_surplus, is_full};
 
 use crate::codes::Codes;
 use crate::parent::{Open, Parent};
@@ -13,6 +13,7 @@ use chunk::channel_information::ChannelChunk;
 use chunk::layer_information::LayerChunk;
 use chunk::mask::Mask;
 use chunk::selection_information::SelectionChunk;
+use headers::kind::Kind;
 use rect::{Shape, Sides};
 
 // What the image chunk announces: its depth, which is 0 until the chunk has come, whether it wants a palette, and its layer count.
@@ -71,6 +72,26 @@ impl Announced {
     }
 }
 
+impl Members {
+    // None was found yet.
+    fn of(announced: u32) -> Members
+        ensures { result ≡ members_of announced }
+    {
+        Members {
+            announced,
+            found: 0,
+        }
+    }
+
+    fn with_one(mut self) -> Members
+        requires { self.found < self.announced }
+        ensures { result ≡ found_one self }
+    {
+        self.found += 1;
+        self
+    }
+}
+
 impl Current {
     const NONE: Current = Current {
         number: 0,
@@ -80,28 +101,26 @@ impl Current {
         mask: Sides::NONE,
     };
 
-    fn by(c: LayerChunk, number: u32, depth: u16) -> Current
-        requires { LayerRules depth c }
+    fn by(c: LayerChunk, number: u32) -> Current
+        requires { (depth : ℕ) × LayerRules depth c }
         ensures { result ≡ layer_by c number }
     {
-        let image = c.image;
-        let mask = c.mask;
         Current {
             number,
             left: c.channels,
             codes: Codes::NONE,
-            image: Sides::of(image.saved),
-            mask: Sides::of(mask.saved),
+            image: Sides::of(c.image.saved),
+            mask: Sides::of(c.mask.saved),
         }
     }
 
     // A selection or an alpha channel has one saved rectangle.
+    // Stays: no plainer as an invariant of the chunk, which is read first and judged then.
     fn by_mask(c: Mask, number: u32) -> Current
         requires { MaskRules c }
         ensures { result ≡ mask_by c number }
     {
-        let area = c.area;
-        let sides = Sides::of(area.saved);
+        let sides = Sides::of(c.area.saved);
         Current {
             number,
             left: c.channels,
@@ -112,18 +131,17 @@ impl Current {
     }
 
     // One channel more.
-    fn with_channel(self, c: ChannelChunk) -> Current
+    fn with_channel(mut self, c: ChannelChunk) -> Current
         requires { 0 < self.left }
         ensures { result ≡ channel_by c self }
     {
-        let codes = self.codes.with(c.bitmap, c.channel);
-        let mut current = self;
-        current.left = self.left - 1;
-        current.codes = codes;
-        current
+        self.left -= 1;
+        self.codes = self.codes.with(c.bitmap, c.channel);
+        self
     }
 
     // The shape of a bitmap's planes in an image of this depth.
+    #[tactic(auto, unfolding(crate::specs::State::shape_for, laws::specs::Choice::pick))]
     pub fn shape_for(self, depth: u16, bitmap: u16) -> Shape
         ensures { (result ≡ shape_for self depth bitmap) × (result.bits ≤ 8) }
     {
@@ -144,6 +162,7 @@ impl Current {
 
 impl State {
     // Before any block.
+    // Stays: no plainer as a derived Default: the name says when it holds, and of `Open` no value is the one to begin with.
     pub const START: State = State {
         image: Announced {
             depth: 0,
@@ -167,8 +186,7 @@ impl State {
     pub fn with_image(mut self, c: ImageChunk) -> State
         ensures { result ≡ with_image c self }
     {
-        let image = Announced::by(c);
-        self.image = image;
+        self.image = Announced::by(c);
         self
     }
 
@@ -180,70 +198,42 @@ impl State {
     }
 
     // The bank is entered, whose layers the image has announced.
-    pub fn with_bank(self) -> State
+    pub fn with_bank(mut self) -> State
         ensures { result ≡ with_bank self }
     {
-        let image = self.image;
-        let current = self.current;
-        let mut met = self.met;
-        met.bank = true;
-        State {
-            image,
-            met,
-            opened: Open::Layers,
-            members: Members {
-                announced: image.layers,
-                found: 0,
-            },
-            current,
-        }
+        self.met.bank = true;
+        self.opened = Open::Layers;
+        self.members = Members::of(self.image.layers);
+        self
     }
 
     // The alpha bank is entered, whose chunk announces its alpha channels.
-    pub fn with_alpha_bank(self, c: AlphaBankChunk) -> State
+    pub fn with_alpha_bank(mut self, c: AlphaBankChunk) -> State
         ensures { result ≡ with_alpha_bank c self }
     {
-        let image = self.image;
-        let current = self.current;
-        let mut met = self.met;
-        met.alphas = true;
-        State {
-            image,
-            met,
-            opened: Open::Alphas,
-            members: Members {
-                announced: c.count as u32,
-                found: 0,
-            },
-            current,
-        }
+        self.met.alphas = true;
+        self.opened = Open::Alphas;
+        self.members = Members::of(c.count as u32);
+        self
     }
 
-    pub fn with_selection(self, c: SelectionChunk) -> State
+    pub fn with_selection(mut self, c: SelectionChunk) -> State
         requires { MaskRules c.mask }
         ensures { result ≡ with_selection c self }
     {
-        let image = self.image;
-        let members = self.members;
-        let mut met = self.met;
-        met.selection = true;
-        State {
-            image,
-            met,
-            opened: Open::Mask,
-            members,
-            current: Current::by_mask(c.mask, 0),
-        }
+        self.met.selection = true;
+        self.opened = Open::Mask;
+        self.current = Current::by_mask(c.mask, 0);
+        self
     }
 
     // One member of the open bank more.
+    // Stays: no plainer as an invariant: a bank that is complete has none left to find, so it is asked for where one comes.
     fn with_member(mut self, current: Current) -> State
         requires { self.members.found < self.members.announced }
         ensures { result ≡ with_member current self }
     {
-        let mut members = self.members;
-        members.found = members.found + 1;
-        self.members = members;
+        self.members = self.members.with_one();
         self.current = current;
         self
     }
@@ -252,25 +242,21 @@ impl State {
         requires { (LayerRules self.image.depth c) × (self.members.found < self.members.announced) }
         ensures { result ≡ with_layer c self }
     {
-        let image = self.image;
-        let members = self.members;
-        self.with_member(Current::by(c, members.found, image.depth))
+        self.with_member(Current::by(c, self.members.found))
     }
 
     pub fn with_alpha(self, c: AlphaChunk) -> State
         requires { (MaskRules c.mask) × (self.members.found < self.members.announced) }
         ensures { result ≡ with_alpha c self }
     {
-        let members = self.members;
-        self.with_member(Current::by_mask(c.mask, members.found))
+        self.with_member(Current::by_mask(c.mask, self.members.found))
     }
 
     pub fn with_channel(mut self, c: ChannelChunk) -> State
         requires { 0 < self.current.left }
         ensures { result ≡ with_channel c self }
     {
-        let current = self.current.with_channel(c);
-        self.current = current;
+        self.current = self.current.with_channel(c);
         self
     }
 
@@ -278,30 +264,23 @@ impl State {
     pub fn surplus(self, id: u16) -> bool
         ensures { result ≡ is_surplus self id }
     {
-        let members = self.members;
-        let current = self.current;
-        (((id == 4) | (id == 8)) & (members.announced <= members.found))
-            | ((id == 5) & (current.left == 0))
+        match Kind::try_from(id) {
+            Ok(Kind::Layer | Kind::Alpha) => self.members.announced <= self.members.found,
+            Ok(Kind::Channel) => self.current.left == 0,
+            _ => false,
+        }
     }
 
     // At the end of what holds the place, nothing is missing.
     pub fn full(self, parent: Parent) -> bool
         ensures { result ≡ is_full self parent }
     {
-        let image = self.image;
-        let met = self.met;
-        let members = self.members;
-        let current = self.current;
         match parent {
-            Parent::Main => met.bank & (!image.paletted | met.palette),
-            Parent::Bank => members.found == members.announced,
-            Parent::Layer => {
-                let codes = current.codes;
-                (current.left == 0) & codes.coloured(image.depth)
-            }
-            Parent::Selection => current.left == 0,
-            Parent::AlphaBank => members.found == members.announced,
-            Parent::Alpha => current.left == 0,
+            Parent::Main => self.met.bank & (!self.image.paletted | self.met.palette),
+            Parent::Bank | Parent::AlphaBank => self.members.found == self.members.announced,
+            Parent::Layer => (self.current.left == 0)
+                & self.current.codes.coloured(self.image.depth),
+            Parent::Selection | Parent::Alpha => self.current.left == 0,
         }
     }
 }

@@ -1,131 +1,160 @@
--- What is ahead of a place, and the packet that follows from it.
-use mathlib.Core.Path.{◌≡◌, refl, sym, subst, ◌∙◌}
+-- What is ahead at the front of a plane, and the packet that follows from it.
+use mathlib.Core.Path.{◌≡◌, refl, sym, ap, subst, ◌∙◌}
 use mathlib.Core.Logic.{inl, inr, ⊎_elim}
-use mathlib.Core.Bool.{true}
+use mathlib.Core.Bool.{true, false}
 use mathlib.Core.List.{List}
-use Prim.Native.Nat.{ℕ, ◌+◌, ◌-◌, ◌<◌, ◌≤◌}
+use Prim.Native.Nat.{ℕ, ◌+◌, ◌-◌, ◌<◌, ◌≤◌, min}
 use native.Mathlib.Omega.{arith}
 use lib.ListN.{length, drop, get_or}
+use lib.Seq.{get_or-drop, drop-drop}
 use Rattle.packet.specs.declared.Packet.TheVariants.{Literals, Run}
 use Rattle.packer.specs.Packing.{three, other_than, until, next_of}
 use Rattle.packer.proofs.Packing.{next_run, next_literals}
 use Rattle.packer.proofs.Places.{other_no, other_differs, other_same, three_short, three_bytes, three_same, three_gap}
-use Rattle.packer.proofs.Reach.{Clear, clear_none, clear_one, reach, reached, Whole, whole, whole_ended, whole_before, whole_behind, whole_count, most_count}
+use Rattle.packer.proofs.Reach.{Clear, clear_none, clear_one, reach, reach_front, reached_front, reach_rest, Whole, whole, whole_ended, whole_before, whole_behind, whole_count, whole_moved, whole_lifted, most_count}
 
--- where three equal bytes start next, or the end, and how many bytes are equal there
-abbrev pub Known : List ℕ → ℕ → ℕ → ℕ → Type 0
-Known p at from same =
-    (from ≡ at + until (length p) three (drop at p)) × (same ≡ until (length p) (other_than (get_or p from 0)) (drop from p))
+-- so many bytes stand before the next place where three equal ones start, or the end, and so many are equal there
+abbrev pub Known : List ℕ → ℕ → ℕ → Type 0
+Known p plain same =
+    (plain ≡ until (length p) three p) × (same ≡ until (length p) (other_than (get_or p plain 0)) (drop plain p))
 
 -- the same by places
-record View (p : List ℕ) (at from same : ℕ) : Type 0 where
-  start : Whole three p at from
-  equal : Whole (other_than (get_or p from 0)) p from (from + same)
+record View (p : List ℕ) (plain same : ℕ) : Type 0 where
+  start : Whole three p 0 plain
+  equal : Whole (other_than (get_or p plain 0)) p plain (plain + same)
 
-view : (p : List ℕ) (at from same : ℕ) → at ≤ length p → Known p at from same → View p at from same
-view p at from same h known =
-    let start = subst (Whole three p at) (sym known.0) (reach three p (length p) at h) in
-    let other = other_than (get_or p from 0) in
+view : (p : List ℕ) (plain same : ℕ) → Known p plain same → View p plain same
+view p plain same known =
+    let start = subst (Whole three p 0) (sym known.0) (reach_front three p) in
+    let other = other_than (get_or p plain 0) in
     record {
       start = start;
-      equal = subst (λ (n : ℕ). Whole other p from (from + n)) (sym known.1) (reach other p (length p) from start.within);
+      equal = subst (λ (n : ℕ). Whole other p plain (plain + n)) (sym known.1) (reach other p (length p) plain start.within);
     }
 
-known : (p : List ℕ) (at from same : ℕ) → View p at from same → Known p at from same
-known p at from same v =
-    let e = whole_count (other_than (get_or p from 0)) p from (from + same) v.equal in
-    (reached three p (length p) at from v.start, omega arith)
+known : (p : List ℕ) (plain same : ℕ) → View p plain same → Known p plain same
+known p plain same v =
+    let e = whole_count (other_than (get_or p plain 0)) p plain (plain + same) v.equal in
+    (reached_front three p plain v.start, omega arith)
 
 -- ---- looking ahead
 
-module _ (p : List ℕ) (at from : ℕ) (start : Whole three p at from) where
+module _ (p : List ℕ) (plain : ℕ) (counted : plain ≡ until (length p) three p) where
+  start : Whole three p 0 plain
+  start = subst (Whole three p 0) (sym counted) (reach_front three p)
+
   -- no three equal bytes are left
-  pub known_none : from ≡ length p → Known p at from 0
-  known_none e =
-      let other = other_than (get_or p from 0) in
-      known p at from 0
-      (record { start = start; equal = whole other p from (from + 0) (omega arith) (omega arith) (λ k above below. absurd (omega arith)) (inl (omega arith)) })
+  pub known_none : plain ≡ length p → Known p plain 0
+  known_none end =
+      let other = other_than (get_or p plain 0) in
+      known p plain 0
+      (record { start = start; equal = whole other p plain (plain + 0) (omega arith) (omega arith) (λ k above below. absurd (omega arith)) (inl (omega arith)) })
 
-  there : (from ≡ length p → ⊥) → three (drop from p) ≡ true
-  there more = ⊎_elim (λ e. absurd (more e)) (λ t. t) (whole_ended three p at from start)
+  there : (plain ≡ length p → ⊥) → three (drop plain p) ≡ true
+  there more = ⊎_elim (λ end. absurd (more end)) (λ t. t) (whole_ended three p 0 plain start)
 
-  pub three_inside : (from ≡ length p → ⊥) → from + 3 ≤ length p
-  three_inside more = (three_bytes p from (there more)).0
+  pub three_inside : (plain ≡ length p → ⊥) → plain + 3 ≤ length p
+  three_inside more = (three_bytes p plain (there more)).0
 
   -- three are, and the count goes on behind them
   pub known_some :
-      (end : ℕ) → (from ≡ length p → ⊥) → end ≡ from + 3 + until (length p) (other_than (get_or p from 0)) (drop (from + 3) p) → Known p at from (end - from)
-  known_some end more e =
-      let b = get_or p from 0 in
+      (m : ℕ) {l : List ℕ} → (plain ≡ length p → ⊥) → l ≡ drop (plain + 3) p → m ≡ until (length l) (other_than (get_or p plain 0)) l
+      → Known p plain (3 + m)
+  known_some m more e counted' =
+      let b = get_or p plain 0 in
       let other = other_than b in
-      let bytes = three_bytes p from (there more) in
-      let behind : Whole other p (from + 3) end = subst (Whole other p (from + 3)) (sym e) (reach other p (length p) (from + 3) bytes.0) in
-      let first : Clear other p from (from + 1) = clear_one other p from from (from + 1) (omega arith) (clear_none other p from) (other_no b p from refl) in
-      let second : Clear other p from (from + 2) = clear_one other p from (from + 1) (from + 2) (omega arith) first (other_no b p (from + 1) bytes.1) in
-      let third : Clear other p from (from + 3) = clear_one other p from (from + 2) (from + 3) (omega arith) second (other_no b p (from + 2) bytes.2) in
-      let all : end ≡ from + (end - from) = omega (arith, behind.above) in
-      known p at from (end - from)
-      (record { start = start; equal = subst (Whole other p from) all (whole_before other p (from + 3) end behind from (omega arith) third) })
+      let bytes = three_bytes p plain (there more) in
+      let behind : Whole other p (plain + 3) (plain + 3 + m) =
+      reach_rest other p (plain + 3) m bytes.0 (counted' ∙ ap (λ (l : List ℕ). until (length l) other l) e) in
+      let first : Clear other p plain (plain + 1) = clear_one other p plain plain (plain + 1) (omega arith) (clear_none other p plain) (other_no b p plain refl) in
+      let second : Clear other p plain (plain + 2) = clear_one other p plain (plain + 1) (plain + 2) (omega arith) first (other_no b p (plain + 1) bytes.1) in
+      let third : Clear other p plain (plain + 3) = clear_one other p plain (plain + 2) (plain + 3) (omega arith) second (other_no b p (plain + 2) bytes.2) in
+      let all : plain + 3 + m ≡ plain + (3 + m) = omega arith in
+      known p plain (3 + m)
+      (record { start = start; equal = subst (Whole other p plain) all (whole_before other p (plain + 3) (plain + 3 + m) behind plain (omega arith) third) })
+
+-- what is known behind a few bytes, where three equal ones start nowhere, is known of all
+pub known_behind :
+    (p : List ℕ) (few plain same : ℕ) {l : List ℕ} → few ≤ length p → ((k : ℕ) → k < few → three (drop k p) ≡ false) → l ≡ drop few p
+    → Known l plain same → Known p (few + plain) same
+known_behind p few plain same inside clear e ahead =
+    let v = view (drop few p) plain same (subst (λ (l : List ℕ). Known l plain same) e ahead) in
+    let other = other_than (get_or p (few + plain) 0) in
+    let from : Whole three p (few + 0) (few + plain) = whole_lifted three p few 0 plain v.start inside in
+    let byte : get_or (drop few p) plain 0 ≡ get_or p (few + plain) 0 = get_or-drop few p plain 0 in
+    let equal : Whole other p (few + plain) (few + (plain + same)) =
+    whole_lifted other p few plain (plain + same) (subst (λ (b : ℕ). Whole (other_than b) (drop few p) plain (plain + same)) byte v.equal) inside in
+    let ends : few + (plain + same) ≡ few + plain + same = omega arith in
+    known p (few + plain) same
+    (record {
+      start = whole_before three p (few + 0) (few + plain) from 0 (omega arith) (λ k above below. clear k (omega arith));
+      equal = subst (λ (i : ℕ). Whole other p (few + plain) i) ends equal;
+    })
 
 -- ---- the next packet
 
-module _ (p : List ℕ) (at from same n : ℕ) (inside : at < length p) (ahead : Known p at from same) where
-  v : View p at from same
-  v = view p at from same (omega arith) ahead
+-- what is known of a place is known at the front of what is left from an earlier one
+moved :
+    (p : List ℕ) (n plain same at : ℕ) → n + plain ≡ at → Whole three p n at → Whole (other_than (get_or p at 0)) p at (at + same)
+    → Known (drop n p) plain same
+moved p n plain same at e start equal =
+    let other = other_than (get_or p at 0) in
+    let byte : get_or p at 0 ≡ get_or (drop n p) plain 0 = ap (λ (i : ℕ). get_or p i 0) (sym e) ∙ sym (get_or-drop n p plain 0) in
+    let inside : n ≤ length p = omega (arith, start.above, start.within) in
+    let from : Whole three p (n + 0) (n + plain) = subst (λ (i : ℕ). Whole three p (n + 0) i) (sym e) (whole_behind three p n at start (n + 0) (omega arith) (omega (arith, start.above))) in
+    let on : Whole other p (n + plain) (n + (plain + same)) =
+    let ends : at + same ≡ n + (plain + same) = omega arith in
+    subst (λ (i : ℕ). Whole other p i (n + (plain + same))) (sym e) (subst (Whole other p at) ends equal) in
+    known (drop n p) plain same
+    (record {
+      start = whole_moved three p n 0 plain from inside;
+      equal = subst (λ (b : ℕ). Whole (other_than b) (drop n p) plain (plain + same)) byte (whole_moved other p n plain (plain + same) on inside);
+    })
 
-  module _ (before : at < from) (e : n ≡ 127 - (127 - (from - at))) where
-    pub literals_next : Literals n ≡ next_of (drop at p)
-    literals_next =
-        next_literals p at n (v.start.clear at (omega arith) before) (most_count three p at from v.start n e)
+module _ (p : List ℕ) (plain same n : ℕ) (ahead : Known p plain same) where
+  v : View p plain same
+  v = view p plain same ahead
 
-    pub literals_ahead : Known p (at + n) from same
-    literals_ahead =
-        known p (at + n) from same (record { start = whole_behind three p at from v.start (at + n) (omega arith) (omega arith); equal = v.equal })
+  module _ (before : 0 < plain) (e : n ≡ min plain 127) where
+    pub literals_next : Literals n ≡ next_of p
+    literals_next = next_literals p n (v.start.clear 0 (omega arith) before) (most_count three p plain n v.start e)
 
-  module _ (here : from ≤ at) (e : n ≡ 127 - (127 - same)) where
+    pub literals_ahead : Known (drop n p) (plain - n) same
+    literals_ahead = moved p n (plain - n) same plain (omega arith) (whole_behind three p 0 plain v.start n (omega arith) (omega arith)) v.equal
+
+  module _ (some : 0 < length p) (here : plain ≡ 0) (e : n ≡ min same 127) where
     abbrev b : ℕ
-    b = get_or p at 0
+    b = get_or p 0 0
 
-    is : from ≡ at
-    is = omega (arith, v.start.above)
+    pub three_here : three p ≡ true
+    three_here = ⊎_elim (λ end. absurd (omega arith)) (λ t. subst (λ (i : ℕ). three (drop i p) ≡ true) here t) (whole_ended three p 0 plain v.start)
 
-    three_here : three (drop at p) ≡ true
-    three_here = ⊎_elim (λ end. absurd (omega arith)) (λ t. subst (λ (i : ℕ). three (drop i p) ≡ true) is t) (whole_ended three p at from v.start)
+    -- the equal bytes, from the front itself
+    run : Whole (other_than b) p 0 same
+    run = subst (Whole (other_than b) p 0) (let all : 0 + same ≡ same = omega arith in all) (subst (λ (i : ℕ). Whole (other_than (get_or p i 0)) p i (i + same)) here v.equal)
 
-    -- the equal bytes, from the place itself
-    run : Whole (other_than b) p at (at + same)
-    run = subst (λ (i : ℕ). Whole (other_than (get_or p i 0)) p i (i + same)) is v.equal
+    pub run_inside : same ≤ length p
+    run_inside = run.within
 
-    pub run_next : Run n b ≡ next_of (drop at p)
-    run_next = next_run p at n three_here (most_count (other_than b) p at (at + same) run n (omega arith))
+    pub run_next : Run n b ≡ next_of p
+    run_next = next_run p n three_here (most_count (other_than b) p same n run e)
 
-    pub run_inside : at + n + (same - n) ≤ length p
-    run_inside = omega (arith, run.within)
-
-    byte_at : (k : ℕ) → at ≤ k → k < at + same → get_or p k 0 ≡ b
-    byte_at k above below = other_same b p k (run.clear k above below)
+    byte_at : (k : ℕ) → k < same → get_or p k 0 ≡ b
+    byte_at k below = other_same b p k (run.clear k (omega arith) below)
 
     -- one or two equal bytes are left: they stand before the next three
-    pub run_ahead : (left f s : ℕ) → left ≡ same - n → left < 3 → Known p (at + n + left) f s → Known p (at + n) f s
-    run_ahead left f s l few next =
-        let w = view p (at + n + left) f s (omega (arith, run.within)) next in
-        known p (at + n) f s (record { start = whole_before three p (at + n + left) f w.start (at + n) (omega arith) plain; equal = w.equal })
-      where
-        plain : Clear three p (at + n) (at + n + left)
-        plain k above below =
-            ⊎_elim (λ end. three_short p k (omega arith))
-            (λ t. three_gap p k (at + same) (omega arith) (omega arith) (λ same_byte. other_differs b p (at + same) t (same_byte ∙ byte_at k (omega arith) (omega arith))))
-            (whole_ended (other_than b) p at (at + same) run)
+    pub run_few : (left : ℕ) → left ≡ same - n → left < 3 → (k : ℕ) → k < left → three (drop k (drop n p)) ≡ false
+    run_few left l few k below =
+        ap three (drop-drop k n p)
+        ∙ ⊎_elim (λ end. three_short p (n + k) (omega arith))
+        (λ t. three_gap p (n + k) same (omega arith) (omega arith) (λ same_byte. other_differs b p same t (same_byte ∙ byte_at (n + k) (omega arith))))
+        (whole_ended (other_than b) p 0 same run)
 
     -- three or more are left: the next run starts at once
-    pub run_again : (left : ℕ) → left ≡ same - n → 3 ≤ left → Known p (at + n) (at + n) left
+    pub run_again : (left : ℕ) → left ≡ same - n → 3 ≤ left → Known (drop n p) 0 left
     run_again left l many =
-        let k = at + n in
-        let first : get_or p k 0 ≡ b = byte_at k (omega arith) (omega arith) in
-        let t = three_same p k (omega (arith, run.within)) (byte_at (k + 1) (omega arith) (omega arith) ∙ sym first) (byte_at (k + 2) (omega arith) (omega arith) ∙ sym first) in
-        let all : at + same ≡ k + left = omega arith in
-        known p k k left
-        (record {
-          start = whole three p k k (omega arith) (omega (arith, run.within)) (clear_none three p k) (inr t);
-          equal = subst (λ (c : ℕ). Whole (other_than c) p k (k + left)) (sym first) (subst (Whole (other_than b) p k) all (whole_behind (other_than b) p at (at + same) run k (omega arith) (omega arith)));
-        })
+        let first : get_or p n 0 ≡ b = byte_at n (omega arith) in
+        let t = three_same p n (omega (arith, run.within)) (byte_at (n + 1) (omega arith) ∙ sym first) (byte_at (n + 2) (omega arith) ∙ sym first) in
+        let all : same ≡ n + left = omega arith in
+        moved p n 0 left n (omega arith) (whole three p n n (omega arith) (omega (arith, run.within)) (clear_none three p n) (inr t))
+        (subst (λ (c : ℕ). Whole (other_than c) p n (n + left)) (sym first) (subst (Whole (other_than b) p n) all (whole_behind (other_than b) p 0 same run n (omega arith) (omega arith))))

@@ -2,6 +2,7 @@
 pub mod Until
 pub mod Places
 pub mod Reach
+pub mod Counted
 pub mod Passing
 pub mod Ahead
 pub mod Packing

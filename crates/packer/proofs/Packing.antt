@@ -1,28 +1,28 @@
 -- The packed form, packet by packet, and the loops that measure and store it.
-use mathlib.Core.Path.{◌≡◌, refl, sym, ap, ◌∙◌, subst}
+use mathlib.Core.Path.{◌≡◌, refl, sym, ap, ap₂, ◌∙◌, subst}
 use mathlib.Core.Bool.{true, false, not}
 use mathlib.Core.List.{List, [], ◌∷◌, ◌++◌, append-nil, append_assoc}
-use Prim.Native.Nat.{ℕ, zero, suc, ◌+◌, ◌-◌, ◌<◌, ◌≤◌}
+use Prim.Native.Nat.{ℕ, zero, suc, ◌+◌, ◌<◌, ◌≤◌}
 use native.Mathlib.Omega.{arith}
 use borrow.Author.Tests.{eq-eqb, eqb-true, not-false, lt-ltb, le-ltb}
 use lib.Dec.{eqb, ltb}
-use lib.ListN.{length, take, drop, get_or, set, replicate, length-append, length-drop, drop_of_length-le}
-use lib.Seq.{drop-drop, length-take-le}
+use lib.ListN.{length, take, drop, get_or, replicate, length-append, length-drop}
+use lib.Seq.{length-take-le, take-take}
 use Rattle.packet.specs.declared.Packet.{Packet}
 use Rattle.packet.specs.declared.Packet.TheVariants.{Literals, Run}
 use Rattle.laws.specs.Choice.{pick}
-use Rattle.laws.specs.Lists.{part, over}
+use Rattle.laws.specs.Lists.{over}
 use Rattle.packet.specs.Stream.{size_of, count_of}
 use Rattle.packer.specs.Packing.{three, other_than, until, next_of, stored_as, packed_with, packed, left_by, packs}
+use Rattle.packer.specs.Pieces.{Takes}
+use Rattle.packer.specs.declared.packets.Piece.{Piece}
 use Rattle.limits.specs.Limits.{plane_limit}
-use Rattle.packer.specs.declared.PackAnswer.TheVariants.{Whole, NoRoom, OverLimit}
+use Rattle.std.specs.Prelude.{Ok, Err}
+use Rattle.packer.specs.declared.PackError.TheVariants.{NoRoom, OverLimit}
 use Rattle.laws.proofs.Choice.{pick_yes, pick_no, pick_ind}
 use Rattle.laws.proofs.Tests.{never}
-use Rattle.laws.proofs.Part.{part_length}
-use Rattle.laws.proofs.Over.{over_cons}
 use Rattle.laws.proofs.Written.{Written, written_first, written_more, written_front, written_length, written_all}
 use Rattle.packer.proofs.Until.{until_go, Count, count}
-use Rattle.packer.proofs.Places.{head_at}
 
 -- ---- the packet that is chosen
 
@@ -81,17 +81,13 @@ chosen p h =
     (λ f. literals f (literals_some p h f) (count three 127 p))
 
 pub next_run :
-    (p : List ℕ) (at n : ℕ) → three (drop at p) ≡ true → n ≡ until 127 (other_than (get_or p at 0)) (drop at p)
-    → Run n (get_or p at 0) ≡ next_of (drop at p)
+    (p : List ℕ) (n : ℕ) → three p ≡ true → n ≡ until 127 (other_than (get_or p 0 0)) p → Run n (get_or p 0 0) ≡ next_of p
 unfolding next_of
-next_run p at n t e =
-    ap (λ (m : ℕ). Run m (get_or p at 0)) e
-    ∙ ap (λ (b : ℕ). Run (until 127 (other_than b) (drop at p)) b) (sym (head_at p at))
-    ∙ sym (pick_yes _ _ _ t)
+next_run p n t e = ap (λ (m : ℕ). Run m (get_or p 0 0)) e ∙ sym (pick_yes _ _ _ t)
 
-pub next_literals : (p : List ℕ) (at n : ℕ) → three (drop at p) ≡ false → n ≡ until 127 three (drop at p) → Literals n ≡ next_of (drop at p)
+pub next_literals : (p : List ℕ) (n : ℕ) → three p ≡ false → n ≡ until 127 three p → Literals n ≡ next_of p
 unfolding next_of
-next_literals p at n t e = ap Literals e ∙ sym (pick_no _ _ _ t)
+next_literals p n t e = ap Literals e ∙ sym (pick_no _ _ _ t)
 
 -- what the code asks of it
 pub record Taken (p : List ℕ) (q : Packet) : Type 0 where
@@ -105,17 +101,6 @@ taken (run three-equal some same c) = record { some = omega arith; few = c.few; 
 taken {p} (literals {n} plain some c) =
     let len : length (take n p) ≡ n = length-take-le n p c.within in
     record { some = some; few = c.few; within = c.within; size = omega arith }
-
--- a count stored, and its literal bytes copied behind it
-pub stored_literals :
-    (dest plane : List ℕ) (done at n count : ℕ) (after : List ℕ) → count ≡ n → done + (n + 1) ≤ length dest → at + n ≤ length plane
-    → after ≡ over (set dest done n) (done + 1) (part plane at count) → after ≡ over dest done (stored_as (Literals n) (drop at plane))
-unfolding part
-stored_literals dest plane done at n count after e room within f =
-    let len : length (take n (drop at plane)) ≡ n = part_length plane at n within in
-    f
-    ∙ ap (λ (k : ℕ). over (set dest done n) (done + 1) (take k (drop at plane))) e
-    ∙ over_cons dest done n (take n (drop at plane)) (omega arith)
 
 -- ---- the packed form
 
@@ -148,128 +133,127 @@ packed_on (b ∷ p) h =
     ap (λ (r : List ℕ). stored_as q (b ∷ p) ++ r)
     (packed_steady (length p) (length rest) rest (simp length-drop (omega (arith, t.some))) (omega arith))
 
-packed_end : (p : List ℕ) (at : ℕ) → length p ≤ at → packed (drop at p) ≡ []
+packed_end : (p : List ℕ) → p ≡ [] → packed p ≡ []
 unfolding packed
-packed_end p at h = ap (λ (l : List ℕ). packed_with (length l) l) (drop_of_length-le p {i = at} h) ∙ packed_nil 0
+packed_end p e = ap (λ (l : List ℕ). packed_with (length l) l) e ∙ packed_nil 0
 
 -- ---- the loops
 
--- the packet at a place of a plane: it lies inside, and the packed form goes on behind it
-pub record Onward (p : List ℕ) (at : ℕ) (q : Packet) : Type 0 where
-  pub some : 1 ≤ count_of q
-  pub few : count_of q ≤ 127
-  pub within : at + count_of q ≤ length p
-  pub size : length (stored_as q (drop at p)) ≡ size_of q
-  pub form : packed (drop at p) ≡ stored_as q (drop at p) ++ packed (drop (at + count_of q) p)
+-- a packet at the front of what is left: it lies inside, and the packed form goes on behind it
+pub record Onward (rest : List ℕ) (p : Piece) (behind : List ℕ) : Type 0 where
+  pub some : 1 ≤ count_of p.packet
+  pub few : count_of p.packet ≤ 127
+  pub within : count_of p.packet ≤ length rest
+  pub long : length p.bytes.now ≡ count_of p.packet
+  pub size : length (stored_as p.packet p.bytes.now) ≡ size_of p.packet
+  pub form : packed rest ≡ stored_as p.packet p.bytes.now ++ packed behind
 
-pub onward : (p : List ℕ) (at : ℕ) (q : Packet) → at < length p → q ≡ next_of (drop at p) → Onward p at q
-onward p at q h e = subst (Onward p at) (sym e) here
-  where
-    here : Onward p at (next_of (drop at p))
-    here =
-        let len : length (drop at p) ≡ length p - at = length-drop at p in
-        let t = taken (chosen (drop at p) (omega arith)) in
-        record {
-          some = t.some;
-          few = t.few;
-          within = omega (arith, t.within);
-          size = t.size;
-          form =
-              packed_on (drop at p) (omega arith)
-              ∙ ap (λ (l : List ℕ). stored_as (next_of (drop at p)) (drop at p) ++ packed l) (drop-drop (count_of (next_of (drop at p))) at p);
-        }
+-- a packet is stored alike from what is left and from its own bytes
+stored_own : (q : Packet) (rest : List ℕ) → stored_as q (take (count_of q) rest) ≡ stored_as q rest
+stored_own (Literals n) rest = ap (λ (l : List ℕ). n ∷ l) (take-take n n rest (omega arith))
+stored_own (Run n b) rest = refl
 
-onward_length : (p : List ℕ) (at : ℕ) (q : Packet) → Onward p at q → length (packed (drop at p)) ≡ size_of q + length (packed (drop (at + count_of q) p))
-onward_length p at q on =
-    let behind = packed (drop (at + count_of q) p) in
-    ap length on.form ∙ length-append (stored_as q (drop at p)) behind ∙ ap (λ (n : ℕ). n + length behind) on.size
+pub onward : {rest behind : List ℕ} {p : Piece} → Takes rest p behind → Onward rest p behind
+onward {rest} {behind} {p} takes =
+    let q = p.packet in
+    let t : Taken rest q = subst (Taken rest) (sym takes.packet) (taken (chosen rest takes.some)) in
+    let own : stored_as q p.bytes.now ≡ stored_as q rest = ap (stored_as q) takes.bytes ∙ stored_own q rest in
+    record {
+      some = t.some;
+      few = t.few;
+      within = t.within;
+      long = ap length takes.bytes ∙ length-take-le (count_of q) rest t.within;
+      size = ap length own ∙ t.size;
+      form =
+          packed_on rest takes.some
+          ∙ ap (λ (r : Packet). stored_as r rest ++ packed (drop (count_of r) rest)) (sym takes.packet)
+          ∙ ap₂ ◌++◌ (sym own) (ap packed (sym takes.left));
+    }
+
+pub takes_shorter : {rest behind : List ℕ} {p : Piece} → Takes rest p behind → length behind < length rest
+takes_shorter {rest} {behind} {p} takes =
+    let on = onward takes in
+    omega (arith, on.some, on.within, ap length takes.left, length-drop (count_of p.packet) rest)
+
+onward_length :
+    {rest behind : List ℕ} {p : Piece} → Onward rest p behind → length (packed rest) ≡ size_of p.packet + length (packed behind)
+onward_length {behind = behind} {p = p} on =
+    ap length on.form ∙ length-append (stored_as p.packet p.bytes.now) (packed behind) ∙ ap (λ (n : ℕ). n + length (packed behind)) on.size
 
 -- what is measured and the packed form of the rest are as long as the packed form
-pub record Measuring (p : List ℕ) (at total : ℕ) : Type 0 where
-  pub within : at ≤ length p
-  pub same : length (packed p) ≡ total + length (packed (drop at p))
-
-pub measuring_first : (p : List ℕ) → Measuring p 0 0
-measuring_first p = record { within = omega arith; same = omega arith }
+abbrev pub Measuring : List ℕ → List ℕ → ℕ → Type 0
+Measuring plane rest total = length (packed plane) ≡ total + length (packed rest)
 
 pub measuring_next :
-    (p : List ℕ) (at total : ℕ) (q : Packet) (size count : ℕ) → Measuring p at total → Onward p at q → size ≡ size_of q → count ≡ count_of q
-    → Measuring p (at + count) (total + size)
-measuring_next p at total q size count m on es ec =
-    let next : Measuring p (at + count_of q) (total + size_of q) =
-    record { within = on.within; same = omega (arith, m.same, onward_length p at q on) } in
-    rw (es, ec) next
+    (plane : List ℕ) {rest behind : List ℕ} {p : Piece} (total size : ℕ) → Measuring plane rest total → Takes rest p behind → size ≡ size_of p.packet
+    → Measuring plane behind (total + size)
+measuring_next plane total size m takes e = omega (arith, onward_length (onward takes))
 
-pub measuring_last : (p : List ℕ) (at total : ℕ) → Measuring p at total → length p ≤ at → total ≡ length (packed p)
-measuring_last p at total m h =
-    let none : length (packed (drop at p)) ≡ 0 = ap length (packed_end p at h) in
-    omega (arith, m.same)
+pub measuring_last : (plane rest : List ℕ) (total : ℕ) → Measuring plane rest total → rest ≡ [] → total ≡ length (packed plane)
+measuring_last plane rest total m e = let none : length (packed rest) ≡ 0 = ap length (packed_end rest e) in omega arith
 
 -- what is stored stands in front of the packed form of the rest
-pub record Storing (p before : List ℕ) (at done : ℕ) (dest : List ℕ) : Type 0 where
-  pub within : at ≤ length p
-  pub form : packed p ≡ take done dest ++ packed (drop at p)
+pub record Storing (plane before rest : List ℕ) (done : ℕ) (dest : List ℕ) : Type 0 where
+  pub form : packed plane ≡ take done dest ++ packed rest
   pub written : Written before done dest
 
-pub storing_first : (p dest : List ℕ) → Storing p dest 0 0 dest
-storing_first p dest = record { within = omega arith; form = refl; written = written_first dest }
+pub storing_first : (plane rest dest : List ℕ) → rest ≡ plane → Storing plane dest rest 0 dest
+storing_first plane rest dest e = record { form = ap packed (sym e); written = written_first dest }
 
-pub storing_room :
-    (p before : List ℕ) (at done : ℕ) (dest : List ℕ) (q : Packet) → length (packed p) ≤ length before → Storing p before at done dest → Onward p at q
-    → done + size_of q ≤ length dest
-storing_room p before at done dest q h s on =
-    let front : length (take done dest) ≡ done = written_length before done dest s.written in
-    let all : length (packed p) ≡ length (take done dest) + length (packed (drop at p)) =
-    ap length s.form ∙ length-append (take done dest) (packed (drop at p)) in
-    omega (arith, onward_length p at q on, s.written.long)
+module _
+    (plane before dest : List ℕ) {rest behind : List ℕ} {p : Piece} (done : ℕ) (room : length (packed plane) ≤ length before)
+    (s : Storing plane before rest done dest) (takes : Takes rest p behind) where
+  abbrev xs : List ℕ
+  xs = stored_as p.packet p.bytes.now
 
-pub storing_next :
-    (p before : List ℕ) (at done : ℕ) (dest : List ℕ) (q : Packet) (count size : ℕ) (after : List ℕ) → length (packed p) ≤ length before
-    → Storing p before at done dest → Onward p at q → count ≡ count_of q → size ≡ size_of q → after ≡ over dest done (stored_as q (drop at p))
-    → Storing p before (at + count) (done + size) after
-storing_next p before at done dest q count size after h s on ec es ea =
-    let xs = stored_as q (drop at p) in
-    let fits : done + length xs ≤ length before = omega (arith, storing_room p before at done dest q h s on, on.size, s.written.long) in
-    let behind = packed (drop (at + count_of q) p) in
-    let next : Storing p before (at + count_of q) (done + length xs) (over dest done xs) = record {
-      within = on.within;
-      form =
-          s.form
-          ∙ ap (λ (r : List ℕ). take done dest ++ r) on.form
-          ∙ sym (append_assoc (take done dest) xs behind)
-          ∙ ap (λ (r : List ℕ). r ++ behind) (sym (written_front before done dest s.written xs fits));
-      written = written_more before done dest s.written xs fits;
-    } in
-    rw (ec, es, ea, ← on.size) next
+  pub storing_room : done + size_of p.packet ≤ length dest
+  storing_room =
+      let front : length (take done dest) ≡ done = written_length before done dest s.written in
+      let all : length (packed plane) ≡ length (take done dest) + length (packed rest) = ap length s.form ∙ length-append (take done dest) (packed rest) in
+      omega (arith, onward_length (onward takes), s.written.long)
+
+  pub storing_next : (size : ℕ) (after : List ℕ) → size ≡ size_of p.packet → after ≡ over dest done xs → Storing plane before behind (done + size) after
+  storing_next size after es ea =
+      let on = onward takes in
+      let fits : done + length xs ≤ length before = omega (arith, storing_room, on.size, s.written.long) in
+      let next : Storing plane before behind (done + length xs) (over dest done xs) = record {
+        form =
+            s.form
+            ∙ ap (λ (r : List ℕ). take done dest ++ r) on.form
+            ∙ sym (append_assoc (take done dest) xs (packed behind))
+            ∙ ap (λ (r : List ℕ). r ++ packed behind) (sym (written_front before done dest s.written xs fits));
+        written = written_more before done dest s.written xs fits;
+      } in
+      rw (es, ea, ← on.size) next
 
 pub storing_last :
-    (p before : List ℕ) (at done : ℕ) (dest : List ℕ) → Storing p before at done dest → length p ≤ at
-    → (done ≡ length (packed p)) × (dest ≡ packed p ++ drop (length (packed p)) before)
-storing_last p before at done dest s h =
-    let all : packed p ≡ take done dest = s.form ∙ ap (λ (r : List ℕ). take done dest ++ r) (packed_end p at h) ∙ append-nil (take done dest) in
-    let len : length (packed p) ≡ done = ap length all ∙ written_length before done dest s.written in (
+    (plane before rest : List ℕ) (done : ℕ) (dest : List ℕ) → Storing plane before rest done dest → rest ≡ []
+    → (done ≡ length (packed plane)) × (dest ≡ packed plane ++ drop (length (packed plane)) before)
+storing_last plane before rest done dest s e =
+    let all : packed plane ≡ take done dest = s.form ∙ ap (λ (r : List ℕ). take done dest ++ r) (packed_end rest e) ∙ append-nil (take done dest) in
+    let len : length (packed plane) ≡ done = ap length all ∙ written_length before done dest s.written in (
       sym len,
       written_all before done dest s.written
-          ∙ sym (ap (λ (n : ℕ). packed p ++ drop n before) len ∙ ap (λ (r : List ℕ). r ++ drop done before) all),
+          ∙ sym (ap (λ (n : ℕ). packed plane ++ drop n before) len ∙ ap (λ (r : List ℕ). r ++ drop done before) all),
     )
 
 -- ---- the answers
 
-packed_is : (plane dest : List ℕ) → length plane ≤ plane_limit → packs plane dest ≡ pick (ltb (length dest) (length (packed plane))) (left_by NoRoom dest) (left_by (Whole (length (packed plane))) (packed plane ++ drop (length (packed plane)) dest))
+packed_is : (plane dest : List ℕ) → length plane ≤ plane_limit → packs plane dest ≡ pick (ltb (length dest) (length (packed plane))) (left_by (Err NoRoom) dest) (left_by (Ok (length (packed plane))) (packed plane ++ drop (length (packed plane)) dest))
 unfolding packs
 packed_is plane dest h = pick_no _ _ _ (le-ltb plane_limit (length plane) h)
 
-pub pack_over_limit : (plane dest : List ℕ) → plane_limit < length plane → packs plane dest ≡ left_by OverLimit dest
+pub pack_over_limit : (plane dest : List ℕ) → plane_limit < length plane → packs plane dest ≡ left_by (Err OverLimit) dest
 unfolding packs
 pack_over_limit plane dest h = pick_yes _ _ _ (lt-ltb plane_limit (length plane) h)
 
-pub pack_short : (plane dest : List ℕ) → length plane ≤ plane_limit → length dest < length (packed plane) → packs plane dest ≡ left_by NoRoom dest
+pub pack_short : (plane dest : List ℕ) → length plane ≤ plane_limit → length dest < length (packed plane) → packs plane dest ≡ left_by (Err NoRoom) dest
 pack_short plane dest h short = packed_is plane dest h ∙ pick_yes _ _ _ (lt-ltb (length dest) (length (packed plane)) short)
 
 pub pack_whole :
     (plane dest : List ℕ) (n : ℕ) (after : List ℕ) → length plane ≤ plane_limit → length (packed plane) ≤ length dest → n ≡ length (packed plane)
-    → after ≡ packed plane ++ drop (length (packed plane)) dest → left_by (Whole n) after ≡ packs plane dest
+    → after ≡ packed plane ++ drop (length (packed plane)) dest → left_by (Ok n) after ≡ packs plane dest
 pack_whole plane dest n after h room e f =
-    ◌∙◌ {b = left_by (Whole (length (packed plane))) (packed plane ++ drop (length (packed plane)) dest)}
-    (λ i. left_by (Whole (e i)) (f i))
+    ◌∙◌ {b = left_by (Ok (length (packed plane))) (packed plane ++ drop (length (packed plane)) dest)}
+    (λ i. left_by (Ok (e i)) (f i))
     (sym (packed_is plane dest h ∙ pick_no _ _ _ (le-ltb (length dest) (length (packed plane)) room)))

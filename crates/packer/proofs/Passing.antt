@@ -1,34 +1,23 @@
 -- Bytes that go by: what the blocks' tests say of them, and the pass that carries how many equal ones have just gone by.
 use mathlib.Core.Path.{◌≡◌, refl, sym, ap, ◌∙◌}
 use mathlib.Core.Logic.{inl, inr, ⊎_elim}
-use mathlib.Core.Bool.{Bool, true, false, ◌&&◌, ◌||◌}
+use mathlib.Core.Bool.{Bool, true, false, ◌||◌}
 use mathlib.Core.List.{List}
 use Prim.Native.Nat.{ℕ, ◌+◌, ◌-◌, ◌<◌, ◌≤◌}
 use native.Mathlib.Omega.{arith}
-use borrow.Author.Tests.{eqb-true}
-use lib.Dec.{eqb}
 use lib.ListN.{length, drop, get_or}
-use Rattle.laws.proofs.Tests.{both, neither, less_or_not}
-use Rattle.packer.specs.Packing.{three, other_than}
-use Rattle.packer.proofs.Places.{other_no, three_short, three_same, three_gap}
-use Rattle.packer.proofs.Reach.{Clear, clear_none, clear_one, clear_join, Whole, whole, whole_before}
+use Rattle.laws.proofs.Tests.{neither, less_or_not}
+use Rattle.packer.specs.Packing.{three, until}
+use Rattle.packer.proofs.Places.{three_short, three_same, three_gap}
+use Rattle.packer.proofs.Reach.{Clear, clear_none, clear_one, clear_join, whole, reached_front}
 
-module _ (p : List ℕ) (at i : ℕ) where
-  -- a byte more of a block that is all this one
-  pub equal_more :
-      (byte : ℕ) (all : Bool) → (all ≡ true → Clear (other_than byte) p at (at + i)) → (all && eqb (get_or p (at + i) 0) byte) ≡ true
-      → Clear (other_than byte) p at (at + (i + 1))
-  equal_more byte all c t =
-      let b = both all (eqb (get_or p (at + i) 0) byte) t in
-      clear_one (other_than byte) p at (at + i) (at + (i + 1)) (omega arith) (c b.0) (other_no byte p (at + i) (eqb-true (get_or p (at + i) 0) byte b.1))
-
-  -- a place more of a block where three equal bytes start nowhere
-  pub plain_more :
-      (any here : Bool) → (any ≡ false → Clear three p at (at + i)) → here ≡ three (drop (at + i) p) → (any || here) ≡ false
-      → Clear three p at (at + (i + 1))
-  plain_more any here c e f =
-      let n = neither any here f in
-      clear_one three p at (at + i) (at + (i + 1)) (omega arith) (c n.0) (sym e ∙ n.1)
+-- a place more of a block where three equal bytes start nowhere
+pub plain_more :
+    (p : List ℕ) (at i : ℕ) (any here : Bool) → (any ≡ false → Clear three p at (at + i)) → here ≡ three (drop (at + i) p) → (any || here) ≡ false
+    → Clear three p at (at + (i + 1))
+plain_more p at i any here c e f =
+    let n = neither any here f in
+    clear_one three p at (at + i) (at + (i + 1)) (omega arith) (c n.0) (sym e ∙ n.1)
 
 -- up to a place all bytes have gone by, the last of them this one, and one or two of them equal; three equal ones start nowhere before those
 pub record Passing (p : List ℕ) (at end byte same to : ℕ) : Type 0 where
@@ -103,18 +92,12 @@ module _ (p : List ℕ) (at end : ℕ) where
 
 -- ---- the whole way
 
-module _ (p : List ℕ) (at : ℕ) where
-  few_left : length p - at < 3 → Clear three p at (length p)
-  few_left few k above below = three_short p k (omega arith)
+-- three equal bytes start nowhere before a place, and there they start, or fewer than three bytes are left
+module _ (p : List ℕ) (to : ℕ) (clear : Clear three p 0 to) where
+  pub found_here : to + 3 ≤ length p → three (drop to p) ≡ true → to ≡ until (length p) three p
+  found_here long t = reached_front three p to (whole three p 0 to (omega arith) (omega arith) clear (inr t))
 
-  pub whole_few : at ≤ length p → length p - at < 3 → Whole three p at (length p)
-  whole_few inside few = whole three p at (length p) inside (omega arith) (few_left few) (inl refl)
-
--- what was found is the whole way
-module _ (p : List ℕ) (at end r : ℕ) (f : Found p at end r) where
-  pub found_here : end ≤ length p → r + 3 ≤ end → Whole three p at r
-  found_here inside long = whole three p at r f.0 (omega arith) f.2 (inr (f.3 long))
-
-  pub found_none : end ≡ length p → end - r < 3 → Whole three p at (length p)
-  found_none e few =
-      whole_before three p r (length p) (whole_few p r (omega (arith, f.1)) (omega arith)) at f.0 f.2
+  pub found_none : to ≤ length p → length p < to + 3 → length p ≡ until (length p) three p
+  found_none inside few =
+      reached_front three p (length p)
+      (whole three p 0 (length p) (omega arith) (omega arith) (clear_join three p 0 to (length p) clear (λ k above below. three_short p k (omega arith))) (inl refl))

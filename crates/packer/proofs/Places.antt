@@ -8,8 +8,8 @@ use native.Mathlib.Nat.{add-zero}
 use native.Mathlib.Omega.{arith}
 use borrow.Author.Tests.{eq-eqb, ne_eqb, eqb-true, not-false}
 use lib.Dec.{eqb}
-use lib.ListN.{length, drop, get_or, length-drop}
-use lib.Seq.{get_or-drop}
+use lib.ListN.{length, take, drop, get_or, length-drop}
+use lib.Seq.{get_or-drop, get_or-take, length-take-le, take-length}
 use Rattle.laws.specs.Choice.{pick}
 use Rattle.packer.specs.Packing.{three, other_than}
 use Rattle.laws.proofs.Choice.{pick_yes, pick_no, pick_ind}
@@ -97,3 +97,25 @@ module _ (p : List ℕ) (at : ℕ) where
       (⊎_elim (λ h. let here : at + 1 ≡ e = omega arith in differs (ap (λ (i : ℕ). get_or p i 0) (sym here) ∙ bytes.1))
       (λ h. let here : at + 2 ≡ e = omega arith in differs (ap (λ (i : ℕ). get_or p i 0) (sym here) ∙ bytes.2)) (less_or_not e (at + 2))))
       (λ f. f)
+
+-- what a part of a list has at its front, the list has
+module _ (l : List ℕ) (n k : ℕ) where
+  pub other_front : (b : ℕ) → k < n → get_or (take n l) k 0 ≡ b → other_than b (drop k l) ≡ false
+  other_front b h e = other_no b l k (sym (get_or-take n l k 0 h) ∙ e)
+
+  pub three_front : k + 3 ≤ n → n ≤ length l → three (drop k (take n l)) ≡ false → three (drop k l) ≡ false
+  three_front h inside f =
+      let len : length (take n l) ≡ n = length-take-le n l inside in
+      let same : (i : ℕ) → i < n → get_or (take n l) i 0 ≡ get_or l i 0 = λ i. get_or-take n l i 0 in
+      yes_or_no (three (drop k l))
+      (λ t.
+      let bytes = three_bytes l k t in
+      let first = sym (same k (omega arith)) in
+      never
+      (sym f
+      ∙ three_same (take n l) k (omega arith) (same (k + 1) (omega arith) ∙ bytes.1 ∙ first) (same (k + 2) (omega arith) ∙ bytes.2 ∙ first)))
+      (λ no. no)
+
+-- a part that goes to the end
+pub to_end : (l : List ℕ) (n : ℕ) → take (length l - n) (drop n l) ≡ drop n l
+to_end l n = ap (λ (m : ℕ). take m (drop n l)) (sym (length-drop n l)) ∙ take-length (drop n l)

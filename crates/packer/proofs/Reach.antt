@@ -1,15 +1,16 @@
 -- How far a test holds nowhere, by places of a plane: what a count says there, and how reaches are joined.
-use mathlib.Core.Path.{◌≡◌, sym, ap, subst, ◌∙◌}
+use mathlib.Core.Path.{◌≡◌, refl, sym, ap, subst, ◌∙◌}
 use mathlib.Core.Logic.{◌⊎◌, inl, inr, ⊎_elim}
 use mathlib.Core.Bool.{Bool, true, false}
 use mathlib.Core.List.{List}
-use Prim.Native.Nat.{ℕ, ◌+◌, ◌-◌, ◌<◌, ◌≤◌}
+use Prim.Native.Nat.{ℕ, ◌+◌, ◌-◌, ◌<◌, ◌≤◌, min}
+use native.Mathlib.Nat.{zero-add}
 use native.Mathlib.Omega.{arith}
 use lib.ListN.{length, drop, length-drop}
 use lib.Seq.{drop-drop}
 use Rattle.laws.proofs.Tests.{never, less_or_not}
 use Rattle.packer.specs.Packing.{until}
-use Rattle.packer.proofs.Until.{count}
+use Rattle.packer.proofs.Until.{count, until_steady}
 
 module _ (stop : List ℕ → Bool) (p : List ℕ) where
   -- the test holds at no place from `at` on and before `to`
@@ -19,31 +20,24 @@ module _ (stop : List ℕ → Bool) (p : List ℕ) where
   pub clear_none : (at : ℕ) → Clear at at
   clear_none at k above below = absurd (omega arith)
 
+  pub clear_front : (to : ℕ) → ((k : ℕ) → k < to → stop (drop k p) ≡ false) → Clear 0 to
+  clear_front to c k above below = c k below
+
   pub clear_join : (at mid to : ℕ) → Clear at mid → Clear mid to → Clear at to
   clear_join at mid to c d k above below = ⊎_elim (λ h. c k above h) (λ h. d k h below) (less_or_not k mid)
 
-  clear_block : (at n : ℕ) → ((k : ℕ) → k < n → stop (drop (at + k) p) ≡ false) → Clear at (at + n)
-  clear_block at n c k above below =
+  -- at the front of what is left from a place on
+  pub clear_rest : (at n : ℕ) {l : List ℕ} → l ≡ drop at p → ((k : ℕ) → k < n → stop (drop k l) ≡ false) → Clear at (at + n)
+  clear_rest at n e c k above below =
       let there : at + (k - at) ≡ k = omega arith in
-      ap (λ (i : ℕ). stop (drop i p)) (sym there) ∙ c (k - at) (omega arith)
+      ap (λ (i : ℕ). stop (drop i p)) (sym there)
+      ∙ ap stop (sym (drop-drop (k - at) at p))
+      ∙ ap (λ (l : List ℕ). stop (drop (k - at) l)) (sym e)
+      ∙ c (k - at) (omega arith)
 
   pub clear_one : (at to next : ℕ) → next ≡ to + 1 → Clear at to → stop (drop to p) ≡ false → Clear at next
   clear_one at to next e c h =
       clear_join at to next c (λ k above below. let here : to ≡ k = omega arith in ap (λ (i : ℕ). stop (drop i p)) (sym here) ∙ h)
-
-  -- a loop that goes on while the test does not hold
-  abbrev pub Gone : ℕ → ℕ → ℕ → Type 0
-  Gone at end to = (at ≤ to) × (to ≤ end) × Clear at to
-
-  module _ (at end : ℕ) where
-    pub gone_first : at ≤ end → Gone at end at
-    gone_first h = (omega arith, h, clear_none at)
-
-    pub gone_one : (to : ℕ) → Gone at end to → to < end → stop (drop to p) ≡ false → Gone at end (to + 1)
-    gone_one to g h f = (omega (arith, g.0), omega arith, clear_one at to (to + 1) (omega arith) g.2 f)
-
-    pub gone_block : (to n : ℕ) → Gone at end to → to + n ≤ end → Clear to (to + n) → Gone at end (to + n)
-    gone_block to n g h c = (omega (arith, g.0), h, clear_join at to (to + n) g.2 c)
 
   -- from `at` on the test holds first at `to`, or so many bytes are gone by, or all
   pub record Reach (most at to : ℕ) : Type 0 where
@@ -72,7 +66,7 @@ module _ (stop : List ℕ → Bool) (p : List ℕ) where
           above = omega arith;
           few = omega (arith, c.few);
           within = omega (arith, c.within);
-          clear = clear_block at n (λ k less. ap stop (sym (drop-drop k at p)) ∙ c.clear k less);
+          clear = clear_rest at n refl c.clear;
           ended =
               ⊎_elim (λ e. inl (ap (λ (m : ℕ). at + m) e))
               (⊎_elim (λ e. inr (inl (omega arith))) (λ t. inr (inr (ap stop (sym (drop-drop n at p)) ∙ t)))) c.ended;
@@ -80,24 +74,6 @@ module _ (stop : List ℕ → Bool) (p : List ℕ) where
 
     pub reached : (to : ℕ) → Reach most at to → to ≡ at + until most stop (drop at p)
     reached to r = reach_one to (at + until most stop (drop at p)) r (reach (omega (arith, r.above, r.within)))
-
-  module _ (at end to : ℕ) (inside : end ≤ length p) (g : Gone at end to) where
-    reached_by : (to ≡ end) ⊎ (stop (drop to p) ≡ true) → to ≡ at + until (end - at) stop (drop at p)
-    reached_by ended =
-        reached (end - at) at to
-        (record {
-          above = g.0;
-          few = omega (arith, g.0, g.1);
-          within = omega (arith, g.1);
-          clear = g.2;
-          ended = ⊎_elim (λ e. inl (omega (arith, g.0))) (λ t. inr (inr t)) ended;
-        })
-
-    pub gone_stop : stop (drop to p) ≡ true → to ≡ at + until (end - at) stop (drop at p)
-    gone_stop t = reached_by (inr t)
-
-    pub gone_end : end ≤ to → to ≡ at + until (end - at) stop (drop at p)
-    gone_end h = reached_by (inl (omega (arith, g.1)))
 
   -- a reach that only the test or the end of the plane can stop
   abbrev pub Whole : ℕ → ℕ → Type 0
@@ -108,21 +84,22 @@ module _ (stop : List ℕ → Bool) (p : List ℕ) where
   whole at to above within clear ended =
       record { above = above; few = omega arith; within = within; clear = clear; ended = inr ended }
 
-  -- a count that ended before its limit, or had none but the plane's end
-  pub whole_near : (at near to : ℕ) → at ≤ near → near ≤ length p → to ≡ at + until (near - at) stop (drop at p) → to < near → Whole at to
-  whole_near at near to h inside e below =
-      let r = subst (Reach (near - at) at) (sym e) (reach (near - at) at (omega arith)) in
-      whole at to r.above r.within r.clear (⊎_elim (λ full. absurd (omega arith)) (λ ended. ended) r.ended)
+  -- from the front of the plane on
+  pub reach_front : Whole 0 (until (length p) stop p)
+  reach_front = subst (Whole 0) (zero-add (until (length p) stop p)) (reach (length p) 0 (omega arith))
 
-  pub whole_far : (at to : ℕ) → at ≤ length p → to ≡ at + until (length p - at) stop (drop at p) → Whole at to
-  whole_far at to h e =
-      let r = subst (Reach (length p - at) at) (sym e) (reach (length p - at) at h) in
-      whole at to r.above r.within r.clear (⊎_elim (λ full. inl (omega arith)) (λ ended. ended) r.ended)
+  pub reached_front : (to : ℕ) → Whole 0 to → to ≡ until (length p) stop p
+  reached_front to r = reached (length p) 0 to r ∙ zero-add (until (length p) stop p)
 
-  -- a count that reached its limit
-  pub clear_near : (at near to : ℕ) → at ≤ near → near ≤ length p → to ≡ at + until (near - at) stop (drop at p) → near ≤ to → Clear at near
-  clear_near at near to h inside e full k above below =
-      (reach (near - at) at (omega arith)).clear k above (omega arith)
+  pub counted_within : (n : ℕ) → n ≡ until (length p) stop p → n ≤ length p
+  counted_within n e = omega (arith, reach_front.within)
+
+  -- from the front of what is left on
+  pub reach_rest : (at n : ℕ) → at ≤ length p → n ≡ until (length (drop at p)) stop (drop at p) → Whole at (at + n)
+  reach_rest at n h e =
+      subst (λ (m : ℕ). Whole at (at + m))
+      (sym (e ∙ until_steady stop (length (drop at p)) (length p) (drop at p) (omega arith) (simp length-drop (omega arith))))
+      (reach (length p) at h)
 
   module _ (at to : ℕ) (r : Whole at to) where
     pub whole_ended : (to ≡ length p) ⊎ (stop (drop to p) ≡ true)
@@ -136,31 +113,70 @@ module _ (stop : List ℕ → Bool) (p : List ℕ) where
     pub whole_behind : (later : ℕ) → at ≤ later → later ≤ to → Whole later to
     whole_behind later h k = whole later to k r.within (λ i above below. r.clear i (omega arith) below) whole_ended
 
-    -- how many bytes it goes by, and how many of them up to 127
+    -- how many bytes it goes by
     pub whole_count : until (length p) stop (drop at p) ≡ to - at
     whole_count = let e = reached (length p) at to r in omega arith
 
-    pub most_count : (n : ℕ) → n ≡ 127 - (127 - (to - at)) → n ≡ until 127 stop (drop at p)
-    most_count n e =
-        let up_to : Reach 127 at (at + n) = record {
-          above = omega arith;
-          few = omega arith;
-          within = omega (arith, r.within, r.above);
-          clear = λ k above below. r.clear k above (omega (arith, r.above));
-          ended =
-              ⊎_elim (λ h. let here : to ≡ at + n = omega (arith, r.above) in subst (λ (i : ℕ). (i ≡ at + 127) ⊎ ((i ≡ length p) ⊎ (stop (drop i p) ≡ true))) here (inr whole_ended))
-              (λ h. inl (omega arith)) (less_or_not (to - at) 127);
-        } in
-        let same = reached 127 at (at + n) up_to in
-        omega arith
+  -- a count that goes on behind a place
+  pub counted_on :
+      (at n : ℕ) {l : List ℕ} → at ≤ length p → Clear 0 at → l ≡ drop at p → n ≡ until (length l) stop l → at + n ≡ until (length p) stop p
+  counted_on at n h clear e counted =
+      reached_front (at + n)
+      (whole_before at (at + n) (reach_rest at n h (counted ∙ ap (λ (l : List ℕ). until (length l) stop l) e)) 0 (omega arith) clear)
 
-  -- the first place decides, or the reach goes on behind it
-  pub reached_here : (at : ℕ) → at ≤ length p → (at ≡ length p) ⊎ (stop (drop at p) ≡ true) → at ≡ at + until (length p) stop (drop at p)
-  reached_here at inside ended = reached (length p) at at (whole at at (omega arith) inside (clear_none at) ended)
+  -- and how many of them up to 127
+  pub most_count : (to n : ℕ) → Whole 0 to → n ≡ min to 127 → n ≡ until 127 stop p
+  most_count to n r e =
+      let up_to : Reach 127 0 n = record {
+        above = omega arith;
+        few = omega arith;
+        within = omega (arith, r.within);
+        clear = λ k above below. r.clear k above (omega arith);
+        ended =
+            ⊎_elim (λ h. let here : to ≡ n = omega arith in subst (λ (i : ℕ). (i ≡ 0 + 127) ⊎ ((i ≡ length p) ⊎ (stop (drop i p) ≡ true))) here (inr (whole_ended 0 to r)))
+            (λ h. inl (omega arith)) (less_or_not to 127);
+      } in
+      reached 127 0 n up_to ∙ zero-add (until 127 stop p)
 
-  pub reached_beyond :
-      (at to : ℕ) → at < length p → stop (drop at p) ≡ false → to ≡ at + 1 + until (length p) stop (drop (at + 1) p)
-      → to ≡ at + until (length p) stop (drop at p)
-  reached_beyond at to inside f e =
-      let beyond = subst (Whole (at + 1)) (sym e) (reach (length p) (at + 1) (omega arith)) in
-      reached (length p) at to (whole_before (at + 1) to beyond at (omega arith) (clear_one at at (at + 1) (omega arith) (clear_none at) f))
+  -- what a loop has left is behind places where the test does not hold
+  pub record Behind (left : List ℕ) : Type 0 where
+    pub few : length left ≤ length p
+    pub there : left ≡ drop (length p - length left) p
+    pub clear : Clear 0 (length p - length left)
+
+  pub behind_first : Behind p
+  behind_first =
+      let none : length p - length p ≡ 0 = omega arith in
+      record { few = omega arith; there = ap (λ (n : ℕ). drop n p) (sym none); clear = λ k above below. absurd (omega arith) }
+
+  pub behind_more : (left : List ℕ) (n : ℕ) → Behind left → n ≤ length left → ((k : ℕ) → k < n → stop (drop k left) ≡ false) → Behind (drop n left)
+  behind_more left n b h c =
+      let len : length (drop n left) ≡ length left - n = length-drop n left in
+      let m = length p - length left in
+      let e : m + n ≡ length p - length (drop n left) = omega (arith, b.few) in
+      record {
+        few = omega (arith, b.few);
+        there = ap (drop n) b.there ∙ drop-drop n m p ∙ ap (λ (i : ℕ). drop i p) e;
+        clear = subst (Clear 0) e (clear_join 0 m (m + n) b.clear (clear_rest m n b.there c));
+      }
+
+-- the same reach, in what is left from an earlier place on
+pub whole_moved :
+    (stop : List ℕ → Bool) (p : List ℕ) (n at to : ℕ) → Whole stop p (n + at) (n + to) → n ≤ length p → Whole stop (drop n p) at to
+whole_moved stop p n at to r h =
+    let len : length (drop n p) ≡ length p - n = length-drop n p in
+    let there : (k : ℕ) → stop (drop k (drop n p)) ≡ stop (drop (n + k) p) = λ k. ap stop (drop-drop k n p) in
+    whole stop (drop n p) at to (omega (arith, r.above)) (omega (arith, r.within))
+    (λ k above below. there k ∙ r.clear (n + k) (omega arith) (omega arith))
+    (⊎_elim (λ e. inl (omega arith)) (λ t. inr (there to ∙ t)) (whole_ended stop p (n + at) (n + to) r))
+
+pub whole_lifted :
+    (stop : List ℕ → Bool) (p : List ℕ) (n at to : ℕ) → Whole stop (drop n p) at to → n ≤ length p → Whole stop p (n + at) (n + to)
+whole_lifted stop p n at to r h =
+    let len : length (drop n p) ≡ length p - n = length-drop n p in
+    let there : (k : ℕ) → stop (drop k (drop n p)) ≡ stop (drop (n + k) p) = λ k. ap stop (drop-drop k n p) in
+    whole stop p (n + at) (n + to) (omega (arith, r.above)) (omega (arith, r.within))
+    (λ k above below.
+    let back : n + (k - n) ≡ k = omega arith in
+    sym (there (k - n) ∙ ap (λ (i : ℕ). stop (drop i p)) back) ∙ r.clear (k - n) (omega arith) (omega arith))
+    (⊎_elim (λ e. inl (omega arith)) (λ t. inr (sym (there to) ∙ t)) (whole_ended stop (drop n p) at to r))

@@ -1,5 +1,6 @@
 -- The packed form of a plane, and what the packer answers and leaves (document 01, Packets and Answer numbers).
-use Rattle.std.specs.Prelude.{ℕ, zero, suc, ◌+◌, Bool, false, not, List, [], ◌∷◌, ◌++◌, eqb, ltb, length, take, drop, get_or}
+use Rattle.std.specs.Prelude.{ℕ, zero, suc, ◌+◌, Bool, false, not, List, [], ◌∷◌, ◌++◌, eqb, ltb, length, take, drop, get_or, Ok, Err}
+use Rattle.std.specs.Prelude.{Result as Answer}
 use Rattle.laws.specs.Choice.{pick}
 use Rattle.laws.specs.Results.{Result}
 use Rattle.limits.specs.Limits.{plane_limit}
@@ -7,8 +8,8 @@ use Rattle.packet.specs.declared.Packet.{Packet}
 use Rattle.packet.specs.declared.Packet.TheVariants.{Literals, Run}
 use Rattle.packet.specs.Stream.{count_of}
 use Rattle.packer.specs.declared.told.Packed.{Packed}
-use Rattle.packer.specs.declared.PackAnswer.{PackAnswer}
-use Rattle.packer.specs.declared.PackAnswer.TheVariants.{Whole, NoRoom, OverLimit}
+use Rattle.packer.specs.declared.PackError.{PackError}
+use Rattle.packer.specs.declared.PackError.TheVariants.{NoRoom, OverLimit}
 
 -- the next three bytes are equal
 unfoldable pub three : List ℕ → Bool
@@ -48,18 +49,22 @@ packed_with (suc fuel) (b ∷ plane) =
 unfoldable pub packed : List ℕ → List ℕ
 packed plane = packed_with (length plane) plane
 
--- what the document tells of an answer
-abbrev pub paper : PackAnswer → Packed
-paper (Whole n) = record { number = 0; length = n }
-paper NoRoom = record { number = 30; length = 0 }
-paper OverLimit = record { number = 31; length = 0 }
+-- the document's number of a refusal
+abbrev pub refusal : PackError → ℕ
+refusal NoRoom = 30
+refusal OverLimit = 31
 
-abbrev pub left_by : PackAnswer → List ℕ → Result Packed
+-- what the document tells of an answer
+abbrev pub paper : Answer ℕ PackError → Packed
+paper (Ok n) = record { number = 0; length = n }
+paper (Err e) = record { number = refusal e; length = 0 }
+
+abbrev pub left_by : Answer ℕ PackError → List ℕ → Result Packed
 left_by answer dest = record { told = paper answer; dest = dest }
 
 -- what `pack` leaves: the packed form in front, and the rest of the destination unchanged
 unfoldable pub packs : List ℕ → List ℕ → Result Packed
 packs plane dest =
-    pick (ltb plane_limit (length plane)) (left_by OverLimit dest)
-    (pick (ltb (length dest) (length (packed plane))) (left_by NoRoom dest)
-    (left_by (Whole (length (packed plane))) (packed plane ++ drop (length (packed plane)) dest)))
+    pick (ltb plane_limit (length plane)) (left_by (Err OverLimit) dest)
+    (pick (ltb (length dest) (length (packed plane))) (left_by (Err NoRoom) dest)
+    (left_by (Ok (length (packed plane))) (packed plane ++ drop (length (packed plane)) dest)))

@@ -1,77 +1,72 @@
-// Where equal bytes end.
-ghost use Rattle.std.specs.Prelude.{◌≡◌, true, false, ℕ, ◌+◌, ◌-◌, ◌<◌, ◌≤◌, length, drop};
+// How many equal bytes stand at the front.
+ghost use Rattle.std.specs.Prelude.{◌≡◌, ◌≢◌, true, false, ℕ, ◌<◌, ◌≤◌, length, drop, get_or};
 ghost use Rattle.packer.specs.Packing.{other_than, until};
 
-use crate::least::near;
-
-// The first place from `at` on, and before `end`, where another byte stands; else `end`.
-fn other_byte(plane: &[u8], byte: u8, at: usize, end: usize) -> usize
-    requires { (at ≤ end) × (end ≤ length plane.now) }
-    ensures { result ≡ at + until (end - at) (other_than byte) (drop at plane.now) }
+// How many bytes stand before another one, or before the end.
+fn before_other(bytes: &[u8], byte: u8) -> usize
+    ensures within { result ≤ length bytes.now }
+    ensures before { (k : ℕ) → k < result → get_or bytes.now k 0 ≡ byte }
+    ensures ended { result < length bytes.now → get_or bytes.now result 0 ≢ byte }
 {
-    let mut to = at;
-    while to < end {
-        if plane[to] != byte {
-            return to;
-        }
-        to += 1;
-    }
-    to
+    bytes.iter().position(|b| *b != byte).unwrap_or(bytes.len())
 }
 
-// If it says yes, the next 32 bytes are all this one. No test waits for another, so that they are made side by side.
-fn all_equal(plane: &[u8], byte: u8, at: usize) -> bool
-    requires { at + 32 ≤ length plane.now }
-    ensures { result ≡ true → (k : ℕ) → at ≤ k → k < at + 32 → other_than byte (drop k plane.now) ≡ false }
+// If it says yes, all bytes of the block are this one. No test waits for another, so that they are made side by side.
+fn all_equal(block: &[u8; 32], byte: u8) -> bool
+    ensures { result ≡ true → (k : ℕ) → k < 32 → get_or block.now k 0 ≡ byte }
 {
     let mut all = true;
-    let mut i = 0;
-    while i < 32 {
-        all = all & (plane[at + i] == byte);
-        i += 1;
+    for b in block {
+        all &= *b == byte;
     }
     all
 }
 
-// A place up to which all bytes are this one: block by block.
-fn equal_blocks(plane: &[u8], byte: u8, at: usize) -> usize
-    requires { at ≤ length plane.now }
-    ensures { (at ≤ result) × (result ≤ length plane.now) × ((k : ℕ) → at ≤ k → k < result → other_than byte (drop k plane.now) ≡ false) }
+// So many bytes at the front are all this one: block by block.
+fn equal_blocks(rest: &[u8], byte: u8) -> usize
+    ensures within { result ≤ length rest.now }
+    ensures before { (k : ℕ) → k < result → other_than byte (drop k rest.now) ≡ false }
 {
-    let mut to = at;
-    while 32 <= plane.len() - to {
-        if !all_equal(plane, byte, to) {
-            return to;
+    let mut left = rest;
+    while let Some((block, behind)) = left.split_first_chunk::<32>() {
+        if !all_equal(block, byte) {
+            break;
         }
-        to += 32;
+        left = behind;
     }
-    to
+    rest.len() - left.len()
 }
 
-// The first place from `at` on where another byte stands, or the end of the plane. Few bytes are looked at one by one, and many by blocks.
-fn equal_beyond(plane: &[u8], byte: u8, at: usize) -> usize
-    requires { at ≤ length plane.now }
-    ensures { result ≡ at + until (length plane.now) (other_than byte) (drop at plane.now) }
+// How many bytes at the front are this one, for many of them: by blocks.
+fn equal_far(rest: &[u8], byte: u8) -> usize
+    ensures within { result ≤ length rest.now }
+    ensures counted { result ≡ until (length rest.now) (other_than byte) rest.now }
 {
-    let near = near(plane, at);
-    let first = other_byte(plane, byte, at, near);
+    let far = equal_blocks(rest, byte);
+    far + before_other(&rest[far..], byte)
+}
+
+// The same. Few are looked at one by one, and many by blocks: most runs and literals of artwork are over within the first few, and a block
+// would be looked at for nothing.
+fn equal_beyond(rest: &[u8], byte: u8) -> usize
+    ensures within { result ≤ length rest.now }
+    ensures counted { result ≡ until (length rest.now) (other_than byte) rest.now }
+{
+    let near = rest.len().min(8);
+    let first = before_other(&rest[..near], byte);
     if first < near {
         return first;
     }
-    let far = equal_blocks(plane, byte, near);
-    other_byte(plane, byte, far, plane.len())
+    near + equal_far(&rest[near..], byte)
 }
 
 // The same. A run of three has another byte at once.
-pub(crate) fn equal_end(plane: &[u8], byte: u8, at: usize) -> usize
-    requires { at ≤ length plane.now }
-    ensures { result ≡ at + until (length plane.now) (other_than byte) (drop at plane.now) }
+pub(crate) fn equal_front(rest: &[u8], byte: u8) -> usize
+    ensures within { result ≤ length rest.now }
+    ensures counted { result ≡ until (length rest.now) (other_than byte) rest.now }
 {
-    if at == plane.len() {
-        return at;
+    match rest {
+        [first, others @ ..] if *first == byte => 1 + equal_beyond(others, byte),
+        _ => 0,
     }
-    if plane[at] != byte {
-        return at;
-    }
-    equal_beyond(plane, byte, at + 1)
 }

@@ -5,19 +5,16 @@
 
 mod equal;
 mod form;
-mod least;
-mod next;
+mod packets;
 mod three;
 mod told;
 
 pub use form::pack;
 pub use told::Packed;
 
-// What packing answers; `paper` gives each its number and length.
-#[derive(Clone, Copy)]
-pub enum PackAnswer {
-    // 0: the packed form is written
-    Whole { length: usize },
+// Why a plane is not packed; `refusal` gives each its number.
+#[derive(Clone, Copy, Debug, PartialEq, Eq)]
+pub enum PackError {
     // 30: the destination is shorter than the packed form
     NoRoom,
     // 31: a plane over the limit

@@ -2,110 +2,104 @@
 ghost use Rattle.std.specs.Prelude.{◌≡◌, true, false, ℕ, ◌+◌, ◌<◌, ◌≤◌, length, drop};
 ghost use Rattle.packer.specs.Packing.{three, until};
 
-use crate::least::near;
-
-// The first place from `at` on where three equal bytes start, all before `end`; if there is none, a place fewer than three bytes before
-// `end`. One pass: `same` carries how many equal bytes have just gone by.
-fn three_before(plane: &[u8], at: usize, end: usize) -> usize
-    requires { (at ≤ end) × (end ≤ length plane.now) }
-    ensures { (at ≤ result) × (result ≤ end) × ((k : ℕ) → at ≤ k → k < result → three (drop k plane.now) ≡ false) × (result + 3 ≤ end → three (drop result plane.now) ≡ true) }
+// The first place where three equal bytes start, all before `end`; if there is none, a place fewer than three bytes before `end`. One pass:
+// `same` carries how many equal bytes have just gone by.
+fn three_before(rest: &[u8], end: usize) -> usize
+    requires { end ≤ length rest.now }
+    ensures within { result ≤ end }
+    ensures before { (k : ℕ) → k < result → three (drop k rest.now) ≡ false }
+    ensures found { result + 3 ≤ end → three (drop result rest.now) ≡ true }
 {
-    if at == end {
-        return at;
-    }
-    let mut byte = plane[at];
+    let Some((first, others)) = rest[..end].split_first() else {
+        return 0;
+    };
+    let mut byte = *first;
     let mut same = 1;
-    let mut to = at + 1;
-    while to < end {
-        let next = plane[to];
-        let equal = next == byte;
+    for (i, next) in others.iter().enumerate() {
+        let equal = *next == byte;
         if equal & (same == 2) {
-            return to - same;
+            return i + 1 - same;
         }
         same = if equal { 2 } else { 1 };
-        byte = next;
-        to += 1;
+        byte = *next;
     }
-    to - same
+    end.saturating_sub(2)
 }
 
-// Whether the next three bytes are equal.
-fn three_at(plane: &[u8], at: usize) -> bool
-    requires { at + 3 ≤ length plane.now }
-    ensures { result ≡ three (drop at plane.now) }
+// Whether three equal bytes start at a place. Without a branch, and neither test is made again by the next place.
+fn three_at(rest: &[u8], at: usize) -> bool
+    requires { at + 3 ≤ length rest.now }
+    ensures { result ≡ three (drop at rest.now) }
 {
-    if plane[at] != plane[at + 1] {
-        return false;
-    }
-    plane[at] == plane[at + 2]
+    (rest[at] == rest[at + 1]) & (rest[at] == rest[at + 2])
 }
 
-// The same, without a branch; and neither test is made again by the next place, so that many places are tested side by side.
-fn three_both(plane: &[u8], at: usize) -> bool
-    requires { at + 3 ≤ length plane.now }
-    ensures { result ≡ three (drop at plane.now) }
-{
-    (plane[at] == plane[at + 1]) & (plane[at] == plane[at + 2])
-}
-
-// If it says no, three equal bytes start at none of the next 16 places. No test waits for another.
-fn any_three(plane: &[u8], at: usize) -> bool
-    requires { at + 18 ≤ length plane.now }
-    ensures { result ≡ false → (k : ℕ) → at ≤ k → k < at + 16 → three (drop k plane.now) ≡ false }
+// If it says no, three equal bytes start at none of the next 16 places. No test waits for another, so that they are made side by side.
+// Stays: (b) the place beside the slice. Of an array of 18 bytes the compiler loads each byte once and shifts them into place, and planes
+// without runs take 15 to 20 % longer.
+fn any_three(rest: &[u8], at: usize) -> bool
+    requires { at + 18 ≤ length rest.now }
+    ensures { result ≡ false → (k : ℕ) → at ≤ k → k < at + 16 → three (drop k rest.now) ≡ false }
 {
     let mut any = false;
-    let mut i = 0;
-    while i < 16 {
-        any = any | three_both(plane, at + i);
-        i += 1;
+    for i in 0..16 {
+        any |= three_at(rest, at + i);
     }
     any
 }
 
-// A place before which three equal bytes start nowhere from `at` on: block by block.
-fn plain_blocks(plane: &[u8], at: usize) -> usize
-    requires { at ≤ length plane.now }
-    ensures { (at ≤ result) × (result ≤ length plane.now) × ((k : ℕ) → at ≤ k → k < result → three (drop k plane.now) ≡ false) }
+// Three equal bytes start at none of so many places: block by block.
+fn plain_blocks(rest: &[u8]) -> usize
+    ensures within { result ≤ length rest.now }
+    ensures before { (k : ℕ) → k < result → three (drop k rest.now) ≡ false }
 {
-    let mut to = at;
-    while 18 <= plane.len() - to {
-        if any_three(plane, to) {
-            return to;
-        }
+    let mut to = 0;
+    // Stays: (d) a block is 18 bytes and the next begins 16 behind it: `windows` would give every place, and `chunks` no block that overlaps.
+    while to + 18 <= rest.len() && !any_three(rest, to) {
         to += 16;
     }
     to
 }
 
-// The first place from `at` on where three equal bytes start, or the end of the plane. Few bytes are looked at one by one, and many by
-// blocks.
-fn three_beyond(plane: &[u8], at: usize) -> usize
-    requires { at ≤ length plane.now }
-    ensures { result ≡ at + until (length plane.now) three (drop at plane.now) }
+// The first place where three equal bytes start, or the end, for many bytes: by blocks.
+fn three_far(rest: &[u8]) -> usize
+    ensures within { result ≤ length rest.now }
+    ensures counted { result ≡ until (length rest.now) three rest.now }
 {
-    let near = near(plane, at);
-    let first = three_before(plane, at, near);
+    let far = plain_blocks(rest);
+    let last = far + three_before(&rest[far..], rest.len() - far);
+    if 3 <= rest.len() - last {
+        last
+    } else {
+        rest.len()
+    }
+}
+
+// The same. Few bytes are looked at one by one, and many by blocks, as equal ones are. Compiled on its own, since runs behind runs would pay
+// for each register that it takes.
+#[inline(never)]
+fn three_beyond(rest: &[u8]) -> usize
+    ensures within { result ≤ length rest.now }
+    ensures counted { result ≡ until (length rest.now) three rest.now }
+{
+    let near = rest.len().min(8);
+    let first = three_before(rest, near);
     if 3 <= near - first {
         return first;
     }
-    let far = plain_blocks(plane, first);
-    let last = three_before(plane, far, plane.len());
-    if 3 <= plane.len() - last {
-        return last;
-    }
-    plane.len()
+    first + three_far(&rest[first..])
 }
 
 // The same. Where a run follows a run, they start at once.
-pub(crate) fn three_start(plane: &[u8], at: usize) -> usize
-    requires { at ≤ length plane.now }
-    ensures { result ≡ at + until (length plane.now) three (drop at plane.now) }
+pub(crate) fn three_start(rest: &[u8]) -> usize
+    ensures within { result ≤ length rest.now }
+    ensures counted { result ≡ until (length rest.now) three rest.now }
 {
-    if plane.len() - at < 3 {
-        return plane.len();
+    let &[a, b, c, ..] = rest else {
+        return rest.len();
+    };
+    if a == b && a == c {
+        return 0;
     }
-    if three_at(plane, at) {
-        return at;
-    }
-    three_beyond(plane, at + 1)
+    1 + three_beyond(&rest[1..])
 }

@@ -1,8 +1,8 @@
 // An answer as document 01 tells it, in numbers.
 ghost use Rattle.std.specs.Prelude.{◌≡◌};
-ghost use Rattle.packer.specs.Packing.{paper};
+ghost use Rattle.packer.specs.Packing.{refusal, paper};
 
-use crate::PackAnswer;
+use crate::PackError;
 
 // The number, and the bytes of the packed form.
 #[repr(C)]
@@ -12,18 +12,25 @@ pub struct Packed {
     pub length: usize,
 }
 
-impl PackAnswer {
-    pub fn told(self) -> Packed
-        ensures { result ≡ paper self }
-    {
-        match self {
-            PackAnswer::Whole { length } => Packed { number: 0, length },
-            PackAnswer::NoRoom => Packed {
-                number: 30,
-                length: 0,
-            },
-            PackAnswer::OverLimit => Packed {
-                number: 31,
+impl From<PackError> for u32 {
+    ghost from_gives = { λ error number. number ≡ refusal error };
+
+    fn from(error: PackError) -> u32 {
+        match error {
+            PackError::NoRoom => 30,
+            PackError::OverLimit => 31,
+        }
+    }
+}
+
+impl From<Result<usize, PackError>> for Packed {
+    ghost from_gives = { λ answer packed. packed ≡ paper answer };
+
+    fn from(answer: Result<usize, PackError>) -> Packed {
+        match answer {
+            Ok(length) => Packed { number: 0, length },
+            Err(error) => Packed {
+                number: error.into(),
                 length: 0,
             },
         }

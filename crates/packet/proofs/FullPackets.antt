@@ -14,9 +14,7 @@ use Rattle.laws.proofs.Choice.{pick_yes, pick_no}
 use Rattle.laws.proofs.Tests.{less_or_not}
 use Rattle.packet.specs.declared.Packet.{Packet}
 use Rattle.packet.specs.declared.Packet.TheVariants.{Literals, Run}
-use Rattle.packet.specs.declared.Look.{Look}
-use Rattle.packet.specs.declared.Look.TheVariants.{Next}
-use Rattle.packet.specs.Stream.{packet_of, data_of, size_of, count_of, bytes_of, look_of, Outcome, bytes, refused, join, meant, meaning_with, meaning_from, meaning}
+use Rattle.packet.specs.Stream.{Look, Next, packet_of, data_of, size_of, count_of, bytes_of, look_of, Outcome, bytes, refused, join, meant, meaning_with, meaning_from, meaning}
 use Rattle.packet.proofs.Stream.{Stood, Shown, ended, count_128, missing, too_much, next, shown, look_next, meaning_next}
 use Rattle.packet.specs.FullPackets.{FullPacket, literals, run, stored, given, Counted, stored_all, given_all, Good, none, more, StreamOf, Ahead, nothing, then, look_number, RefusedAt}
 

@@ -1,12 +1,11 @@
 -- The plane reader's answers, each by the tests that lead to it.
 use mathlib.Core.Path.{◌≡◌, refl, sym, ap, ◌∙◌}
-use mathlib.Core.List.{List, [], ◌++◌, append-nil}
-use Prim.Native.Nat.{ℕ, ◌+◌, ◌-◌, ◌<◌, ◌≤◌}
+use mathlib.Core.List.{List, ◌++◌}
+use Prim.Native.Nat.{ℕ, ◌+◌, ◌<◌, ◌≤◌}
 use borrow.Author.Tests.{lt-ltb, le-ltb, eq-eqb, ne_eqb}
 use lib.Dec.{eqb, ltb}
 use native.Mathlib.Omega.{arith}
-use lib.ListN.{length, take, drop, length-append, drop_of_length-le}
-use lib.Seq.{length-take-le}
+use lib.ListN.{length, length-append}
 use Rattle.laws.specs.Choice.{pick}
 use Rattle.laws.specs.Lists.{part}
 use Rattle.laws.specs.Results.{Result}
@@ -14,7 +13,7 @@ use Rattle.packet.specs.declared.told.Plane.{Plane}
 use Rattle.packet.specs.Reading.{untouched, filled, unpacked, plane_read}
 use Rattle.limits.specs.Limits.{plane_limit}
 use Rattle.laws.proofs.Choice.{pick_yes, pick_no}
-use Rattle.laws.proofs.Part.{lent, part_length, part_longer}
+use Rattle.laws.proofs.Part.{part_longer}
 
 module _ (input : List ℕ) (start stored plane code : ℕ) (dest : List ℕ) where
   abbrev said : Result Plane
@@ -68,28 +67,6 @@ module _ (input : List ℕ) (start stored plane code : ℕ) (dest : List ℕ) wh
 
           pub raw_length : (code ≡ 1 → ⊥) → (stored ≡ plane → ⊥) → said ≡ untouched 25 dest
           raw_length h n = placed ∙ pick_no _ _ _ (ne_eqb code 1 h) ∙ pick_no _ _ _ (ne_eqb stored plane n)
-
--- a copy of the stored part into the front of the destination: it has room there, and what it leaves
-pub copied_room :
-    (input : List ℕ) (start stored plane : ℕ) (dest : List ℕ) → start + stored ≤ length input → plane ≤ length dest → stored ≡ plane
-    → length (take (start + stored - start) (drop start input)) ≤ length (take plane dest)
-copied_room input start stored plane dest there room e =
-    omega (arith, ap length (lent input start stored), part_length input start stored there, length-take-le plane dest room)
-
-pub copied_front :
-    (input : List ℕ) (start stored plane : ℕ) (dest ys : List ℕ) → start + stored ≤ length input → plane ≤ length dest → stored ≡ plane
-    → ys ≡ take (start + stored - start) (drop start input) ++ drop (length (take (start + stored - start) (drop start input))) (take plane dest)
-    → ys ++ drop plane dest ≡ part input start stored ++ drop plane dest
-copied_front input start stored plane dest ys there room e f =
-    let is = lent input start stored in
-    let long : length (part input start stored) ≡ plane = part_length input start stored there ∙ e in
-    let none : drop plane (take plane dest) ≡ [] = drop_of_length-le (take plane dest) {i = plane} (omega (arith, length-take-le plane dest room)) in
-    ap (λ (l : List ℕ). l ++ drop plane dest)
-    (f
-    ∙ ap (λ (l : List ℕ). l ++ drop (length l) (take plane dest)) is
-    ∙ ap (λ (n : ℕ). part input start stored ++ drop n (take plane dest)) long
-    ∙ ap (λ (l : List ℕ). part input start stored ++ l) none
-    ∙ append-nil (part input start stored))
 
 -- on more input a stored part that is inside reads the same
 pub plane_longer :

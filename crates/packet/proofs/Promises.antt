@@ -7,9 +7,8 @@ use native.Mathlib.Omega.{arith}
 use borrow.Author.Tests.{le-ltb, ltb-false, eqb-true}
 use lib.ListN.{length, drop, length-append, length-drop}
 use Rattle.packet.specs.declared.Packet.{Packet}
-use Rattle.packet.specs.declared.Look.{Look}
 use Rattle.laws.specs.Lists.{part}
-use Rattle.packet.specs.Stream.{size_of, count_of, bytes_of, Outcome, bytes, refused, join, meant, meaning_with, meaning}
+use Rattle.packet.specs.Stream.{Look, size_of, count_of, bytes_of, Outcome, bytes, refused, join, meant, meaning_with, meaning}
 use Rattle.laws.specs.Results.{Result}
 use Rattle.packet.specs.declared.told.Plane.{Plane}
 use Rattle.packet.specs.Reading.{refusal, untouched, filled, verdict, laid, unpacked, plane_read}

@@ -11,10 +11,8 @@ use lib.ListN.{length, drop, get_or, length-drop, length-replicate, drop_of_leng
 use lib.Seq.{drop-cons, drop-drop, get_or-drop, length-take-le}
 use Rattle.packet.specs.declared.Packet.{Packet}
 use Rattle.packet.specs.declared.Packet.TheVariants.{Literals, Run}
-use Rattle.packet.specs.declared.Look.{Look}
-use Rattle.packet.specs.declared.Look.TheVariants.{End, Next, Count128, Missing, TooMuch}
 use Rattle.laws.specs.Choice.{pick}
-use Rattle.packet.specs.Stream.{packet_of, data_of, size_of, count_of, bytes_of, fitted, look_of, Outcome, bytes, refused, join, meant, meaning_with, meaning_from}
+use Rattle.packet.specs.Stream.{Look, End, Next, Count128, Missing, TooMuch, packet_of, data_of, size_of, count_of, bytes_of, fitted, look_of, Outcome, bytes, refused, join, meant, meaning_with, meaning_from}
 use Rattle.laws.proofs.Choice.{pick_yes, pick_no, pick_ind}
 
 -- what stands at the front of a stream where a look finds a packet

@@ -1,9 +1,7 @@
 -- What packets are, whatever reads or writes them (document 01, Packets): how a list of them is stored, and the bytes that it gives. A reader
 -- meets a packet by its count (`Packet`); here it has its bytes with it.
 use Rattle.std.specs.Prelude.{◌≡◌, List, [], ◌∷◌, ◌++◌, ℕ, ◌+◌, ◌-◌, ◌≤◌, ◌<◌, length, replicate}
-use Rattle.packet.specs.declared.Look.{Look}
-use Rattle.packet.specs.declared.Look.TheVariants.{End, Next, Count128, Missing, TooMuch}
-use Rattle.packet.specs.Stream.{look_of}
+use Rattle.packet.specs.Stream.{Look, End, Next, Count128, Missing, TooMuch, look_of}
 
 -- bytes as they are, or one byte so many times
 pub data FullPacket : Type 0 where

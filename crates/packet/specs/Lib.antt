@@ -2,3 +2,4 @@
 pub mod Stream
 pub mod FullPackets
 pub mod Reading
+pub mod Standing

@@ -1,13 +1,19 @@
 -- What the packet reader and the plane reader answer and leave (document 01, Answer numbers).
-use Rattle.std.specs.Prelude.{ℕ, ◌+◌, List, ◌++◌, eqb, ltb, length, drop}
+use Rattle.std.specs.Prelude.{ℕ, ◌+◌, List, ◌++◌, eqb, ltb, length, drop, Ok, Err}
 use Rattle.laws.specs.Choice.{pick}
 use Rattle.laws.specs.Lists.{part}
 use Rattle.laws.specs.Results.{Result}
 use Rattle.limits.specs.Limits.{plane_limit}
 use Rattle.packet.specs.Stream.{Outcome, bytes, refused, meaning}
 use Rattle.packet.specs.declared.told.Plane.{Plane}
-use Rattle.packet.specs.declared.PlaneAnswer.{PlaneAnswer}
-use Rattle.packet.specs.declared.PlaneAnswer.TheVariants.{Whole, NoRoom, Count128, Missing, TooMuch, UnknownCode, RawLength, OverLimit, Outside}
+use Rattle.packet.specs.declared.answer.Read.{Read}
+use Rattle.packet.specs.declared.answer.PlaneError.{PlaneError}
+use Rattle.packet.specs.declared.answer.PlaneError.TheVariants.{NoRoom, Count128, Missing, TooMuch, UnknownCode, RawLength, OverLimit, Outside}
+use Rattle.std.specs.Prelude.{Result as Answer}
+
+-- what reading answers: what was read, or why nothing is written
+abbrev pub PlaneAnswer : Type 0
+PlaneAnswer = Answer Read PlaneError
 
 abbrev pub good : ℕ → ℕ → Plane
 good stored plane = record { number = 0; place = stored; bytes = plane }
@@ -17,15 +23,15 @@ refusal number place = record { number = number; place = place; bytes = 0 }
 
 -- what the document tells of an answer
 abbrev pub paper : PlaneAnswer → Plane
-paper (Whole stored plane) = good stored plane
-paper NoRoom = refusal 20 0
-paper (Count128 place) = refusal 21 place
-paper (Missing place) = refusal 22 place
-paper (TooMuch place) = refusal 23 place
-paper UnknownCode = refusal 24 0
-paper RawLength = refusal 25 0
-paper OverLimit = refusal 26 0
-paper Outside = refusal 27 0
+paper (Ok read) = good read.stored read.plane
+paper (Err NoRoom) = refusal 20 0
+paper (Err (Count128 place)) = refusal 21 place
+paper (Err (Missing place)) = refusal 22 place
+paper (Err (TooMuch place)) = refusal 23 place
+paper (Err UnknownCode) = refusal 24 0
+paper (Err RawLength) = refusal 25 0
+paper (Err OverLimit) = refusal 26 0
+paper (Err Outside) = refusal 27 0
 
 abbrev pub left_by : PlaneAnswer → List ℕ → Result Plane
 left_by answer dest = record { told = paper answer; dest = dest }

@@ -3,8 +3,6 @@ use Rattle.std.specs.Prelude.{ℕ, zero, suc, ◌+◌, ◌-◌, List, [], ◌∷
 use Rattle.laws.specs.Choice.{pick}
 use Rattle.packet.specs.declared.Packet.{Packet}
 use Rattle.packet.specs.declared.Packet.TheVariants.{Literals, Run}
-use Rattle.packet.specs.declared.Look.{Look}
-use Rattle.packet.specs.declared.Look.TheVariants.{End, Next, Count128, Missing, TooMuch}
 
 -- below 128: so many literals follow; above: one byte follows, and stands for count less 128 of it
 unfoldable pub packet_of : ℕ → List ℕ → Packet
@@ -28,6 +26,14 @@ count_of (Run n b) = n
 abbrev pub bytes_of : Packet → List ℕ → List ℕ
 bytes_of (Literals n) stream = take n (drop 1 stream)
 bytes_of (Run n b) stream = replicate n b
+
+-- what stands at a place of a stream: the end of a full plane, a packet, or a packet that is refused
+pub data Look : Type 0 where
+  End : Look
+  Next : Packet → Look
+  Count128 : Look
+  Missing : Look
+  TooMuch : Look
 
 -- a packet, where so many bytes of the stream follow its count and the plane has so many left
 unfoldable pub fitted : ℕ → ℕ → Packet → Look

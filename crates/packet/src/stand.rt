@@ -1,16 +1,44 @@
 // How far a pass over a stream has come.
-ghost use Rattle.std.specs.Prelude.{◌≡◌, ◌-◌};
+ghost use Rattle.std.specs.Prelude.{◌≤◌, length};
 
-// The place of the next packet in the stream, and the bytes of the plane that the packets before it give.
+// A stream and the length of its plane; the place of the next packet in the stream, and the bytes of the plane that the packets before it give.
 #[derive(Clone, Copy)]
-pub struct Stand {
+pub struct Stand<'a> {
+    pub stream: &'a [u8],
+    pub plane: usize,
     pub at: usize,
     pub done: usize,
+    pub ghost within: { (at ≤ length stream.now) × (done ≤ plane) },
 }
 
-// n less m, or 0: the places of n bytes that have at least m more behind them.
-pub fn less(n: usize, m: usize) -> usize
-    ensures { result ≡ n - m }
-{
-    if m <= n { n - m } else { 0 }
+impl<'a> Stand<'a> {
+    ghost use Rattle.std.specs.Prelude.{◌≡◌};
+    ghost use Rattle.packet.specs.Stream.{meaning};
+    ghost use Rattle.packet.specs.Standing.{ahead};
+
+    // Before the first packet.
+    pub fn first(stream: &'a [u8], plane: usize) -> Self
+        ensures { (result.stream.now ≡ stream.now) × (result.plane ≡ plane) × (result.done ≡ 0) × (ahead result ≡ meaning stream.now plane) }
+    {
+        Stand {
+            stream,
+            plane,
+            at: 0,
+            done: 0,
+        }
+    }
+
+    // Elsewhere in the same stream.
+    pub fn moved(self, at: usize, done: usize) -> Self
+        requires { (at ≤ length self.stream.now) × (done ≤ self.plane) }
+        ensures { (result.stream.now ≡ self.entry.stream.now) × (result.plane ≡ self.entry.plane) × (result.at ≡ at) × (result.done ≡ done) }
+    {
+        let Stand { stream, plane, .. } = self;
+        Stand {
+            stream,
+            plane,
+            at,
+            done,
+        }
+    }
 }

@@ -2,7 +2,7 @@
 ghost use Rattle.std.specs.Prelude.{◌≡◌};
 ghost use Rattle.packet.specs.Reading.{refusal, paper};
 
-use crate::PlaneAnswer;
+use crate::{PlaneAnswer, PlaneError};
 
 // The number, the place inside the stored channel, and the bytes written.
 #[repr(C)]
@@ -23,24 +23,24 @@ fn refused(number: u32, place: usize) -> Plane
     }
 }
 
-impl PlaneAnswer {
-    pub fn told(self) -> Plane
-        ensures { result ≡ paper self }
-    {
-        match self {
-            PlaneAnswer::Whole { stored, plane } => Plane {
+impl From<PlaneAnswer> for Plane {
+    ghost from_gives = { λ answer told. told ≡ paper answer };
+
+    fn from(answer: PlaneAnswer) -> Plane {
+        match answer {
+            Ok(read) => Plane {
                 number: 0,
-                place: stored,
-                bytes: plane,
+                place: read.stored,
+                bytes: read.plane,
             },
-            PlaneAnswer::NoRoom => refused(20, 0),
-            PlaneAnswer::Count128 { place } => refused(21, place),
-            PlaneAnswer::Missing { place } => refused(22, place),
-            PlaneAnswer::TooMuch { place } => refused(23, place),
-            PlaneAnswer::UnknownCode => refused(24, 0),
-            PlaneAnswer::RawLength => refused(25, 0),
-            PlaneAnswer::OverLimit => refused(26, 0),
-            PlaneAnswer::Outside => refused(27, 0),
+            Err(PlaneError::NoRoom) => refused(20, 0),
+            Err(PlaneError::Count128 { place }) => refused(21, place),
+            Err(PlaneError::Missing { place }) => refused(22, place),
+            Err(PlaneError::TooMuch { place }) => refused(23, place),
+            Err(PlaneError::UnknownCode) => refused(24, 0),
+            Err(PlaneError::RawLength) => refused(25, 0),
+            Err(PlaneError::OverLimit) => refused(26, 0),
+            Err(PlaneError::Outside) => refused(27, 0),
         }
     }
 }

@@ -7,6 +7,8 @@ use native.Mathlib.Omega.{arith}
 use borrow.Author.Tests.{lt-ltb, le-ltb}
 use lib.ListN.{length, drop, get_or}
 use lib.Seq.{ext_get_or}
+use Rattle.std.specs.Prelude.{Ok, Err}
+use Rattle.std.specs.declared.ops.ControlFlow.TheVariants.{Break}
 use Rattle.laws.proofs.Choice.{pick_yes, pick_no}
 use Rattle.laws.proofs.Tests.{yes_or_no}
 use Rattle.answer.specs.declared.Outcome.{Outcome}
@@ -19,32 +21,28 @@ use Rattle.walk.proofs.Cut.{plain}
 use Rattle.listing.specs.Listing.{head_of, listed, lists}
 use Rattle.listing.proofs.Heads.{head_count, refused_head}
 use Rattle.pencil.specs.declared.paper.Paper.{Paper}
-use Rattle.pencil.specs.declared.paper.Reply.{Reply}
-use Rattle.pencil.specs.declared.paper.Reply.TheVariants.{Found, Final}
-use Rattle.pencil.specs.declared.paper.Turn.{Turn}
-use Rattle.pencil.specs.declared.paper.Turn.TheVariants.{Says}
-use Rattle.pencil.specs.Pencil.{first, turn_at, Leads, says, goes, Pencil, header, blocks}
+use Rattle.pencil.specs.Pencil.{Reply, Turn, first, turn_at, Leads, says, goes, Pencil, header, blocks}
 use Rattle.pencil.specs.Agrees.{answer_of, asked, Agrees, AgreesWith}
 use Rattle.pencil.proofs.Turns.{left, Reached, at_first, Next, last, on, next, gone}
 
 -- ### A listing, asked
 
-asked_entry : (a : Listed) (k : ℕ) → k < length a.entries → asked a k ≡ Found (get_or a.entries k nowhere)
+asked_entry : (a : Listed) (k : ℕ) → k < length a.entries → asked a k ≡ Ok (get_or a.entries k nowhere)
 unfolding asked
 asked_entry a k low = pick_yes _ _ _ (lt-ltb k (length a.entries) low)
 
-asked_past : (a : Listed) (k : ℕ) → length a.entries ≤ k → asked a k ≡ Final (answer_of a)
+asked_past : (a : Listed) (k : ℕ) → length a.entries ≤ k → asked a k ≡ Err (answer_of a)
 unfolding asked
 asked_past a k past = pick_no _ _ _ (le-ltb k (length a.entries) past)
 
 -- what a reply has
 entry_in : Reply → Entry
-entry_in (Found e) = e
-entry_in (Final o) = nowhere
+entry_in (Ok e) = e
+entry_in (Err o) = nowhere
 
 outcome_in : Outcome → Reply → Outcome
-outcome_in d (Found e) = d
-outcome_in d (Final o) = o
+outcome_in d (Ok e) = d
+outcome_in d (Err o) = o
 
 -- two listings with the same replies are one
 module _ (a b : Listed) (same : (k : ℕ) → asked a k ≡ asked b k) where
@@ -76,7 +74,7 @@ module _ (s : List ℕ) (room k : ℕ) where
     -- it comes to an end
     step : {p : Paper} {t : Turn} → turn_at s room k p ≡ t → Next s good room k p t
         → ((q : Paper) → Reached s good room k q → left s q < left s p → Leads s room k q reply) → Leads s room k p reply
-    step is (last e) rest = says (is ∙ ap Says e)
+    step is (last e) rest = says (is ∙ ap Break e)
     step is (on {q} r less) rest = goes is (rest q r less)
 
     leads : (n : ℕ) {p : Paper} → left s p < n → Reached s good room k p → Leads s room k p reply
@@ -84,7 +82,7 @@ module _ (s : List ℕ) (room k : ℕ) where
     leads (suc n) few r = step refl (next s good room k r) (λ q r' less. leads n (omega arith) r')
 
     -- and says nothing else
-    said : {p : Paper} {r : Reply} → Next s good room k p (Says r) → r ≡ reply
+    said : {p : Paper} {r : Reply} → Next s good room k p (Break r) → r ≡ reply
     said (last e) = e
 
     leads_only : {p : Paper} {r : Reply} → Reached s good room k p → Leads s room k p r → r ≡ reply
@@ -93,11 +91,11 @@ module _ (s : List ℕ) (room k : ℕ) where
 
   -- ### A header that is refused
 
-  refused_is : is_accepted (head_of s).answer ≡ false → Final (head_of s) ≡ reply
+  refused_is : is_accepted (head_of s).answer ≡ false → Err (head_of s) ≡ reply
   refused_is bad =
       let none : head_of s ≡ answer_of (plain (head_of s).answer (head_of s).place []) =
       λ i. record { answer = (head_of s).answer; place = (head_of s).place; count = head_count s i } in
-      ap Final none ∙ sym (asked_past (plain (head_of s).answer (head_of s).place []) k (omega arith)) ∙ ap (λ (a : Listed). asked a k) (sym (refused_head s room bad))
+      ap Err none ∙ sym (asked_past (plain (head_of s).answer (head_of s).place []) k (omega arith)) ∙ ap (λ (a : Listed). asked a k) (sym (refused_head s room bad))
 
   -- ### For every input, room and k
 
@@ -128,6 +126,6 @@ agrees_with s table =
       entry = λ k r low gives.
           pencil_only s (length table / size) k r gives
           ∙ asked_entry a k low
-          ∙ ap Found (sym (entry_is es (drop (size * length es) table) k nowhere low));
+          ∙ ap Ok (sym (entry_is es (drop (size * length es) table) k nowhere low));
       answer = λ k r past gives. (answer_of a, (pencil_only s (length table / size) k r gives ∙ asked_past a k past, refl));
     }

@@ -6,9 +6,10 @@ use Prim.Native.Nat.{ℕ, ◌+◌, ◌-◌, ◌*◌, ◌≤◌, ◌<◌}
 use native.Mathlib.Omega.{arith}
 use borrow.Author.Tests.{eqb-true, eqb-false, lt-ltb, le-ltb}
 use lib.ListN.{length, get_or, length-append}
+use Rattle.std.specs.Prelude.{Ok, Err}
+use Rattle.std.specs.declared.ops.ControlFlow.TheVariants.{Continue, Break}
 use Rattle.laws.proofs.Choice.{pick_yes, pick_no, pick_ind}
-use Rattle.answer.specs.declared.Answer.{Answer}
-use Rattle.answer.specs.Answers.{is_accepted}
+use Rattle.answer.specs.Answers.{Answer, is_accepted}
 use Rattle.answer.proofs.Names.{not_accepted}
 use Rattle.entry.specs.declared.Entry.{Entry}
 use Rattle.entry.specs.Entry.{nowhere}
@@ -31,11 +32,7 @@ use Rattle.listing.specs.Listing.{head_of, beyond, listed}
 use Rattle.listing.proofs.Heads.{behind_head, good_small}
 use Rattle.pencil.specs.declared.paper.Inside.{Inside}
 use Rattle.pencil.specs.declared.paper.Paper.{Paper}
-use Rattle.pencil.specs.declared.paper.Reply.{Reply}
-use Rattle.pencil.specs.declared.paper.Reply.TheVariants.{Found, Final}
-use Rattle.pencil.specs.declared.paper.Turn.{Turn}
-use Rattle.pencil.specs.declared.paper.Turn.TheVariants.{Says, Goes}
-use Rattle.pencil.specs.Pencil.{paper, first, levels_of, out_of, passed, turn_by, turn_at}
+use Rattle.pencil.specs.Pencil.{Reply, Turn, paper, first, levels_of, out_of, passed, turn_by, turn_at}
 use Rattle.pencil.specs.Standing.{Standing}
 use Rattle.pencil.specs.Agrees.{answer_of, asked}
 use Rattle.pencil.proofs.Stands.{inside_of, levels_are, entered_is, around_far, paper_of, end_is, rule_seen}
@@ -65,10 +62,10 @@ module _ (s : List ℕ) (good : is_accepted (head_of s).answer ≡ true) (room k
     pub ahead : length entries ≤ k
 
   pub data Next (p : Paper) : Turn → Type 0 where
-    last : {r : Reply} → r ≡ asked (listed s room) k → Next p (Says r)
-    on : {q : Paper} → Reached q → left s q < left s p → Next p (Goes q)
+    last : {r : Reply} → r ≡ asked (listed s room) k → Next p (Break r)
+    on : {q : Paper} → Reached q → left s q < left s p → Next p (Continue q)
 
-  pub gone : {p q : Paper} → Next p (Goes q) → Reached q × (left s q < left s p)
+  pub gone : {p q : Paper} → Next p (Continue q) → Reached q × (left s q < left s p)
   gone (on r less) = (r, less)
 
   -- both start at one place
@@ -83,7 +80,7 @@ module _ (s : List ℕ) (good : is_accepted (head_of s).answer ≡ true) (room k
   }
 
   -- the listing's answer, where it has no entry k
-  final_is : (a : Listed) → a ≡ listed s room → length a.entries ≤ k → Final (answer_of a) ≡ asked (listed s room) k
+  final_is : (a : Listed) → a ≡ listed s room → length a.entries ≤ k → Err (answer_of a) ≡ asked (listed s room) k
   unfolding asked
   final_is a is h = sym (pick_no _ _ _ (le-ltb k (length a.entries) h)) ∙ ap (λ (b : Listed). asked b k) is
 
@@ -101,16 +98,16 @@ module _ (s : List ℕ) (good : is_accepted (head_of s).answer ≡ true) (room k
 
     answered_is :
         {j : Judged} {a : Answer} {place : ℕ} → seen (step_at s) main x ≡ j → Answered room es x j a place
-        → Final (record { answer = a; place = place; count = length es }) ≡ asked (listed s room) k
+        → Err (record { answer = a; place = place; count = length es }) ≡ asked (listed s room) k
     answered_is {j} {a} {place} is h =
         final_is (plain a place es) (only main (length s) (step_at s) (moves s) start file_header_size beyond main in_order all_levels room c is h ∙ sym walked) ahead
 
-    found_is : {j : Judged} {e : Entry} → seen (step_at s) main x ≡ j → Finds e j → length es < room → length es ≡ k → Found e ≡ asked (listed s room) k
+    found_is : {j : Judged} {e : Entry} → seen (step_at s) main x ≡ j → Finds e j → length es < room → length es ≡ k → Ok e ≡ asked (listed s room) k
     unfolding asked
     found_is {j} {e} is finds some here =
         let n = next_listed main (length s) (step_at s) (moves s) start file_header_size beyond main in_order all_levels room c is finds some nowhere in
-        subst (λ (i : ℕ). Found e ≡ asked (listed s room) i) here
-        (ap Found (sym n.1 ∙ ap (λ (a : Listed). get_or a.entries (length es) nowhere) (sym walked))
+        subst (λ (i : ℕ). Ok e ≡ asked (listed s room) i) here
+        (ap Ok (sym n.1 ∙ ap (λ (a : Listed). get_or a.entries (length es) nowhere) (sym walked))
         ∙ sym (pick_yes _ _ _ (lt-ltb (length es) (length (listed s room).entries) (omega (arith, n.0, ap (λ (a : Listed). length a.entries) walked)))))
 
     -- ### Or it goes on

@@ -1,14 +1,12 @@
 -- What holds between the pencil and the table (document 02, request x).
-use Rattle.std.specs.Prelude.{ℕ, ◌*◌, ◌/◌, ◌≤◌, ◌<◌, ◌≡◌, List, ltb, length, get_or}
+use Rattle.std.specs.Prelude.{ℕ, ◌*◌, ◌/◌, ◌≤◌, ◌<◌, ◌≡◌, List, ltb, length, get_or, Ok, Err}
 use Rattle.laws.specs.Choice.{pick}
 use Rattle.answer.specs.declared.Outcome.{Outcome}
 use Rattle.answer.specs.Answers.{paper}
 use Rattle.entry.specs.Entry.{size, nowhere, entry_at}
 use Rattle.walk.specs.Room.{Listed}
 use Rattle.listing.specs.Listing.{listed, lists}
-use Rattle.pencil.specs.declared.paper.Reply.{Reply}
-use Rattle.pencil.specs.declared.paper.Reply.TheVariants.{Found, Final}
-use Rattle.pencil.specs.Pencil.{Pencil}
+use Rattle.pencil.specs.Pencil.{Reply, Pencil}
 
 -- ### A listing, asked for its k-th entry
 
@@ -17,7 +15,7 @@ answer_of a = record { answer = a.answer; place = a.place; count = length a.entr
 
 -- the entry, or the answer where there are not so many
 unfoldable pub asked : Listed → ℕ → Reply
-asked a k = pick (ltb k (length a.entries)) (Found (get_or a.entries k nowhere)) (Final (answer_of a))
+asked a k = pick (ltb k (length a.entries)) (Ok (get_or a.entries k nowhere)) (Err (answer_of a))
 
 -- ### The two listings agree
 
@@ -32,7 +30,7 @@ pub record Agrees (s : List ℕ) (room : ℕ) : Type 0 where
 pub record AgreesWith (s table : List ℕ) : Type 0 where
   pub entry :
       (k : ℕ) (r : Reply) → k < (lists s table).told.count → Pencil s (length table / size) k r
-      → r ≡ Found (entry_at (lists s table).dest (k * size))
+      → r ≡ Ok (entry_at (lists s table).dest (k * size))
   pub answer :
       (k : ℕ) (r : Reply) → (lists s table).told.count ≤ k → Pencil s (length table / size) k r
-      → (o : Outcome) × ((r ≡ Final o) × (paper o ≡ (lists s table).told))
+      → (o : Outcome) × ((r ≡ Err o) × (paper o ≡ (lists s table).told))

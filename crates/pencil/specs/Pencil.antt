@@ -1,10 +1,12 @@
 -- The listing by pencil (document 02, request x): one who is asked for entry k starts at byte 0 and goes from place to place. On the paper
 -- stand the place, where the open blocks end, what the rules remember, and how many entries were passed; there is no table.
-use Rattle.std.specs.Prelude.{ℕ, ◌+◌, ◌≡◌, true, false, List, eqb}
+use Rattle.std.specs.Prelude.{ℕ, ◌+◌, ◌≡◌, true, false, List, eqb, Result, Ok, Err}
+use Rattle.std.specs.declared.ops.ControlFlow.{ControlFlow}
+use Rattle.std.specs.declared.ops.ControlFlow.TheVariants.{Continue, Break}
 use Rattle.laws.specs.Choice.{pick}
-use Rattle.answer.specs.declared.Answer.{Answer}
-use Rattle.answer.specs.declared.Answer.TheVariants.{Accepted, Refused, TableFull}
-use Rattle.answer.specs.Answers.{is_accepted}
+use Rattle.answer.specs.Answers.{Answer, Accepted, is_accepted}
+use Rattle.answer.specs.declared.Stopped.TheVariants.{Rule, TableFull}
+use Rattle.answer.specs.declared.Outcome.{Outcome}
 use Rattle.entry.specs.declared.Entry.{Entry}
 use Rattle.walk.specs.Walk.{End, Stop, Leaf, Nest}
 use Rattle.headers.specs.FileHeader.{file_header_size}
@@ -16,10 +18,6 @@ use Rattle.listing.specs.Listing.{head_of, beyond}
 use Rattle.pencil.specs.declared.paper.Inside.{Inside}
 use Rattle.pencil.specs.declared.paper.Inside.TheVariants.{Nothing, One, Two}
 use Rattle.pencil.specs.declared.paper.Paper.{Paper}
-use Rattle.pencil.specs.declared.paper.Reply.{Reply}
-use Rattle.pencil.specs.declared.paper.Reply.TheVariants.{Found, Final}
-use Rattle.pencil.specs.declared.paper.Turn.{Turn}
-use Rattle.pencil.specs.declared.paper.Turn.TheVariants.{Says, Goes}
 
 -- ### The paper
 
@@ -49,27 +47,35 @@ entered end (Two outer other) = Two end outer
 
 -- ### One turn
 
+-- the entry that was asked for; or, where there is none, the listing's final answer
+abbrev pub Reply : Type 0
+Reply = Result Entry Outcome
+
+-- a turn breaks off with the reply, or goes on with a new paper
+abbrev pub Turn : Type 0
+Turn = ControlFlow Reply Paper
+
 -- a final answer has the count of entries that were passed
 abbrev pub final : Paper → Answer → ℕ → Turn
-final p answer place = Says (Final (record { answer = answer; place = place; count = p.count }))
+final p answer place = Break (Err (record { answer = answer; place = place; count = p.count }))
 
 -- at an end the pencil goes out of the inner block; inside no block the file has come to its end
 unfoldable pub out_of : Paper → Inside → Turn
 out_of p Nothing = final p Accepted p.place
-out_of p (One end) = Goes (paper end Nothing p.state p.count)
-out_of p (Two end outer) = Goes (paper end (One outer) p.state p.count)
+out_of p (One end) = Continue (paper end Nothing p.state p.count)
+out_of p (Two end outer) = Continue (paper end (One outer) p.state p.count)
 
 -- at an entry: no room is left for it (12), it is the one that was asked for, or it is passed
 unfoldable pub passed : ℕ → ℕ → Paper → Entry → ℕ → Inside → State → Turn
 passed room k p e place inside state =
-    pick (eqb p.count room) (final p TableFull p.place)
-    (pick (eqb p.count k) (Says (Found e))
-    (Goes (paper place inside state (p.count + 1))))
+    pick (eqb p.count room) (final p (Err TableFull) p.place)
+    (pick (eqb p.count k) (Break (Ok e))
+    (Continue (paper place inside state (p.count + 1))))
 
 -- by what the rule of the place gives: out, stop, on behind the block, or into it
 unfoldable pub turn_by : ℕ → ℕ → Paper → Judged → Turn
 turn_by room k p End = out_of p p.inside
-turn_by room k p (Stop refusal place) = final p (Refused refusal) place
+turn_by room k p (Stop refusal place) = final p (Err (Rule refusal)) place
 turn_by room k p (Leaf e next state) = passed room k p e next p.inside state
 turn_by room k p (Nest e inside state after) = passed room k p e inside (entered after p.inside) state
 
@@ -84,10 +90,10 @@ turn_at s room k p = turn_by room k p (rule_at s p)
 
 -- from what stands on the paper to the reply
 pub data Leads (s : List ℕ) (room k : ℕ) : Paper → Reply → Type 0 where
-  says : {p : Paper} {r : Reply} → turn_at s room k p ≡ Says r → Leads s room k p r
-  goes : {p q : Paper} {r : Reply} → turn_at s room k p ≡ Goes q → Leads s room k q r → Leads s room k p r
+  says : {p : Paper} {r : Reply} → turn_at s room k p ≡ Break r → Leads s room k p r
+  goes : {p q : Paper} {r : Reply} → turn_at s room k p ≡ Continue q → Leads s room k q r → Leads s room k p r
 
 -- the file header first: its refusal is the final answer, whatever was asked
 pub data Pencil (s : List ℕ) (room k : ℕ) : Reply → Type 0 where
-  header : is_accepted (head_of s).answer ≡ false → Pencil s room k (Final (head_of s))
+  header : is_accepted (head_of s).answer ≡ false → Pencil s room k (Err (head_of s))
   blocks : {r : Reply} → is_accepted (head_of s).answer ≡ true → Leads s room k first r → Pencil s room k r

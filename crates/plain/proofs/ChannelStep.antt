@@ -7,6 +7,7 @@ use native.Mathlib.Omega.{arith}
 use borrow.Author.Tests.{eqb-true, eq-eqb, ne_eqb, leb-true, le-leb}
 use lib.Dec.{eqb, leb}
 use lib.ListN.{length}
+use Rattle.std.specs.Prelude.{Option, None}
 use Rattle.laws.specs.Choice.{pick}
 use Rattle.laws.proofs.Choice.{pick_yes, pick_no}
 use Rattle.laws.proofs.Tests.{both, either}
@@ -18,8 +19,6 @@ use Rattle.walk.specs.Walk.{Stop, Leaf}
 use Rattle.walk.proofs.Unit.{unit_there}
 use Rattle.headers.specs.declared.block_header.BlockHeader.{BlockHeader}
 use Rattle.headers.specs.BlockHeader.{block_header_size, block_header_at}
-use Rattle.attributes.specs.declared.fault.Fault.{Fault}
-use Rattle.attributes.specs.declared.fault.Fault.TheVariants.{None}
 use Rattle.attributes.specs.Fault.{unless_of}
 use Rattle.chunk.specs.declared.channel_information.ChannelChunk.{ChannelChunk}
 use Rattle.chunk.specs.Heads.{channel_head}
@@ -123,7 +122,7 @@ module _ (s : List ℕ) (st : State) (at stop end : ℕ) (begun : Begun st) (of_
     told : channel_coded s st Layer at 2 c ≡ passes
     unfolding channel_coded permitted
     told =
-        ap (λ (f : Fault). permitted f (at + block_header_size) (unless (is_awaited st Layer c) (Stop NotExpected at) (channel_sized s st at 2 c shape))) coded
+        ap (λ (f : Option ℕ). permitted f (at + block_header_size) (unless (is_awaited st Layer c) (Stop NotExpected at) (channel_sized s st at 2 c shape))) coded
         ∙ pick_yes _ _ _ awaited
         ∙ sized
 

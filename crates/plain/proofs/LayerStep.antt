@@ -7,6 +7,7 @@ use native.Mathlib.Omega.{arith}
 use borrow.Author.Tests.{eq-eqb, ne_eqb, le-leb, lt-leb}
 use lib.Dec.{eqb}
 use lib.ListN.{length}
+use Rattle.std.specs.Prelude.{Option, None}
 use Rattle.laws.specs.Choice.{pick}
 use Rattle.laws.proofs.Choice.{pick_yes, pick_no}
 use Rattle.laws.proofs.Tests.{both}
@@ -14,8 +15,6 @@ use Rattle.walk.specs.Walk.{End, Nest}
 use Rattle.walk.proofs.Unit.{unit_there}
 use Rattle.headers.specs.declared.block_header.BlockHeader.{BlockHeader}
 use Rattle.headers.specs.BlockHeader.{block_header_size, block_header_at}
-use Rattle.attributes.specs.declared.fault.Fault.{Fault}
-use Rattle.attributes.specs.declared.fault.Fault.TheVariants.{None}
 use Rattle.attributes.specs.Depth.{colour_channels}
 use Rattle.attributes.specs.Fault.{unless_of, Field, from, earliest}
 use Rattle.attributes.proofs.Earliest.{Kept}
@@ -111,14 +110,14 @@ module _ (s : List ℕ) (st : State) (at stop end : ℕ) (begun : Begun st) (of_
   kind =
       by_layer _ _ _ _ _ _ _ _ _ p.id
       ∙ unit_there s (at + block_header_size) layer_size _ (omega (arith, p.whole, p.total, present))
-      ∙ ap (λ (f : Fault). permitted f (at + block_header_size) opens) p.good
+      ∙ ap (λ (f : Option ℕ). permitted f (at + block_header_size) opens) p.good
 
   pub layer_steps : step_at s st at end 1 ≡ opens
   layer_steps = entered_steps s st at end 1 Bank entered (λ (e : 1 ≡ main). omega arith) held ∙ kind
 
 -- its end, where it is complete
-pub layer_ends : (s : List ℕ) (r : Layered) → r.state.opened ≡ Layers → is_complete r ≡ true → step_at s r.state r.at r.after 0 ≡ End
+pub layer_ends : (s : List ℕ) (r : Layered) → r.state.opened ≡ Layers → is_complete r ≡ true → step_at s r.state r.passed.at r.after 0 ≡ End
 unfolding step_at parent_at pick
 layer_ends s r of_layers complete =
-    let k = both (eqb r.at r.after) _ complete in
+    let k = both (eqb r.passed.at r.after) _ complete in
     pick_yes _ _ _ k.0 ∙ pick_yes _ _ _ (ap (λ (o : Open). is_full r.state (parent_at o 0)) of_layers ∙ k.1)

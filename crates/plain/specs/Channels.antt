@@ -42,6 +42,6 @@ pub record PlainChannel (s : List ℕ) (at stop depth left : ℕ) (codes : Codes
 -- channels were passed, where a layer is open behind the image
 pub record Channels (s : List ℕ) (st : State) (first end room from : ℕ) (t : List ℕ) (r : Laid) (t' : List ℕ) : Type 0 where
   pub entries : List Entry
-  pub goes : (st.image.depth ≡ 0 → ⊥) → st.opened ≡ Layers → Goes s end 0 st first entries (with_left st r.left r.codes) r.at
+  pub goes : (st.image.depth ≡ 0 → ⊥) → st.opened ≡ Layers → Goes s end 0 st first entries (with_left st r.left r.codes) r.passed.at
   pub channels : All (λ (e : Entry). e.block.id ≡ 5) entries
-  pub stores : Stores first end room from t entries r.at r.count t'
+  pub stores : Stores first end room from t entries r.passed.at r.passed.count t'

@@ -4,7 +4,7 @@ use Rattle.laws.specs.All.{All}
 use Rattle.entry.specs.declared.Entry.{Entry}
 use Rattle.memory.specs.declared.state.State.{State}
 use Rattle.memory.specs.Parent.{main}
-use Rattle.plain.specs.declared.skipped.Passed.{Passed}
+use Rattle.plain.specs.declared.stretch.Passed.{Passed}
 use Rattle.plain.specs.Standing.{Goes, Stores}
 
 -- an id that is skipped whatever came before: 12 and up anywhere behind the image; at the main level also 1, 10 and 11, but for one that

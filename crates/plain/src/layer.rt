@@ -1,30 +1,27 @@
 // A layer of the bank, with its channels.
-ghost use Rattle.std.specs.Prelude.{◌≡◌, true, ◌≤◌, ◌<◌, ◌^◌, length};
-ghost use Rattle.attributes.specs.declared.fault.Fault.TheVariants.{None};
+ghost use Rattle.std.specs.Prelude.{None, ◌≡◌, true, ◌≤◌, ◌<◌, ◌^◌, IfSome, length};
 ghost use Rattle.chunk.specs.LayerInformation.{layer_fault};
 ghost use Rattle.plain.specs.Channels.{with_left};
-ghost use Rattle.plain.specs.Layer.{Banked, GoodArea, PlainLayer, layer_entry, is_complete, Holds};
-ghost use Rattle.plain.specs.Standing.{Standing};
+ghost use Rattle.plain.specs.Layer.{Banked, GoodArea, PlainLayer, layer_from, layer_entry, is_complete, Holds};
 
 use crate::channels::channels;
-use crate::reach::reach;
+use crate::stretch::{Passed, Stretch};
 use attributes::depth;
 use chunk::area::Area;
 use chunk::layer_information::LayerChunk;
 use entry::Entry;
 use headers::block_header::BlockHeader;
+use headers::fields::Fields;
+use headers::kind::Kind;
 use memory::{Codes, Open, Parent, State};
 
 const HEAD: usize = BlockHeader::SIZE + LayerChunk::SIZE;
 
-// A layer and those of its channels that are plain, where it is plain itself: where it ends, where these channels end, how many entries were
-// listed by then, and the state there.
+// A plain layer and those of its channels that are plain: what was passed, where the layer ends, and the state behind these channels.
 #[derive(Clone, Copy)]
 pub struct Layered {
-    pub plain: bool,
+    pub passed: Passed,
     pub after: usize,
-    pub at: usize,
-    pub count: usize,
     pub state: State,
 }
 
@@ -33,8 +30,7 @@ impl Layered {
     pub fn complete(self) -> bool
         ensures { result ≡ is_complete self }
     {
-        let state = self.state;
-        (self.at == self.after) & state.full(Parent::Layer)
+        self.passed.at == self.after && self.state.full(Parent::Layer)
     }
 }
 
@@ -42,149 +38,93 @@ impl Layered {
 pub fn in_bank(st: State, levels: usize) -> bool
     ensures { result ≡ true → Banked st levels }
 {
-    let opened = st.opened;
-    let image = st.image;
-    match opened {
-        Open::Layers => (levels == 1) & (image.depth != 0),
-        Open::Mask => false,
-        Open::Alphas => false,
-    }
+    matches!(st.opened, Open::Layers) && levels == 1 && st.image.depth != 0
 }
 
 // A border that is proper, and a saved rectangle that belongs to it.
 fn good_area(area: Area) -> bool
     ensures { result ≡ true → GoodArea area }
 {
-    if !rect::proper(area.border) {
-        return false;
-    }
-    rect::saved(area.saved, area.border)
+    area.border.is_proper() && area.saved.is_saved(area.border)
 }
 
 // No field of the chunk is at fault. The earliest that is, `judge` names; here the cheapest tests come first.
+#[tactic(auto, using(crate::proofs::LayerStep::layer_good))]
 fn good(c: LayerChunk, depth: u16) -> bool
     ensures { result ≡ true → layer_fault depth c ≡ None }
 {
-    if 1 < c.kind {
-        return false;
-    }
-    if 5 < c.blends {
-        return false;
-    }
-    if c.bitmaps < 1 {
-        return false;
-    }
-    if 3 < c.bitmaps {
-        return false;
-    }
-    if c.channels as u32 + 1 != depth::channels(depth) + c.bitmaps as u32 {
-        return false;
-    }
-    if !good_area(c.image) {
-        return false;
-    }
-    good_area(c.mask)
+    c.kind <= 1
+        && c.blends <= 5
+        && 1 <= c.bitmaps
+        && c.bitmaps <= 3
+        && c.channels as u32 + 1 == depth::channels(depth) + c.bitmaps as u32
+        && good_area(c.image)
+        && good_area(c.mask)
 }
 
-// A layer that is announced, whole and good.
-fn layer(s: &[u8], st: State, at: usize, stop: usize) -> bool
+// Where a layer ends that is announced, whole and good, and its chunk.
+fn layer(s: &[u8], st: State, at: usize, stop: usize) -> Option<(usize, LayerChunk)>
     requires { (stop ≤ length s.now) × (at < 2 ^ 40) }
-    ensures { result ≡ true → PlainLayer s.now st at stop }
+    ensures { IfSome result (λ p. (p ≡ layer_from s.now at) × PlainLayer s.now st at stop) }
 {
     if stop < at + HEAD {
-        return false;
+        return None;
     }
     let h = BlockHeader::decode(s, at);
-    if !h.marked() {
-        return false;
-    }
-    if h.id != 4 {
-        return false;
-    }
-    let members = st.members;
-    if members.announced <= members.found {
-        return false;
-    }
-    let initial = h.initial as usize;
-    if !((initial == LayerChunk::SIZE) | (initial == 0)) {
-        return false;
-    }
+    let chunk = at + BlockHeader::SIZE;
     let total = h.total as usize;
-    if total < LayerChunk::SIZE {
-        return false;
+    let whole = h.marked()
+        && h.id == Kind::Layer as u16
+        && st.members.found < st.members.announced
+        && matches!(h.initial as usize, LayerChunk::SIZE | 0)
+        && LayerChunk::SIZE <= total
+        && chunk + total <= stop;
+    if !whole {
+        return None;
     }
-    if stop < at + BlockHeader::SIZE + total {
-        return false;
-    }
-    let c = LayerChunk::decode(s, at + BlockHeader::SIZE);
-    let image = st.image;
-    good(c, image.depth)
+    let c = LayerChunk::decode(s, chunk);
+    good(c, st.image.depth).then_some((chunk + total, c))
 }
 
 pub fn layer_entry(at: usize, number: u32) -> Entry
     requires { at < 2 ^ 32 }
     ensures { result ≡ layer_entry at number }
 {
-    kinds::ranked_entry(4, 1, at, HEAD, number)
+    kinds::ranked_entry(Kind::Layer as u32, 1, at, HEAD, number)
 }
 
 // The state behind channels that were passed.
 fn behind(mut st: State, left: u16, codes: Codes) -> State
     ensures { result ≡ with_left st left codes }
 {
-    let mut current = st.current;
-    current.left = left;
-    current.codes = codes;
-    st.current = current;
+    st.current.left = left;
+    st.current.codes = codes;
     st
 }
 
 // A layer with the channels that stand behind its chunk; nothing where it is not plain, or has no room.
-pub fn held(
-    s: &[u8],
-    st: State,
-    at: usize,
-    end: usize,
-    room: usize,
-    table: &mut [u32],
-    count: usize,
-) -> Layered
-    requires { Standing s.now at end 1 room count }
-    ensures { Holds s.now st at end room count table.old result table.new }
+pub fn held(stretch: Stretch, st: State, table: &mut [u32]) -> Option<Layered>
+    ensures { Holds stretch.entry.input.now st stretch.entry.at stretch.entry.end stretch.entry.room stretch.entry.count table.old result table.new }
 {
-    let stop = reach(s, end);
-    if count == room {
-        return Layered {
-            plain: false,
-            after: at,
-            at,
-            count,
-            state: st,
-        };
+    let at = stretch.at;
+    let count = stretch.count;
+    if count == stretch.room {
+        return None;
     }
-    if !layer(s, st, at, stop) {
-        return Layered {
-            plain: false,
-            after: at,
-            at,
-            count,
-            state: st,
-        };
-    }
-    let members = st.members;
-    let e = layer_entry(at, members.found);
-    entry::store(table, count, e);
-    let chunk = at + BlockHeader::SIZE;
-    let h = BlockHeader::decode(s, at);
-    let after = chunk + h.total as usize;
-    let c = LayerChunk::decode(s, chunk);
+    let (after, c) = layer(stretch.input, st, at, stretch.reach())?;
+    entry::store(table, count, layer_entry(at, st.members.found));
+    let inside = Stretch {
+        input: stretch.input,
+        at: at + HEAD,
+        end: after,
+        count: count + 1,
+        room: stretch.room,
+    };
     let q = st.with_layer(c);
-    let p = channels(s, q, at + HEAD, after, room, table, count + 1);
-    Layered {
-        plain: true,
+    let p = channels(inside, q, table);
+    Some(Layered {
+        passed: p.passed,
         after,
-        at: p.at,
-        count: p.count,
         state: behind(q, p.left, p.codes),
-    }
+    })
 }

@@ -6,8 +6,9 @@
 
 mod channels;
 mod layer;
-mod reach;
 mod skipped;
+mod stretch;
 
 pub use layer::{Layered, held, in_bank, layer_entry};
-pub use skipped::{Passed, skips};
+pub use skipped::skips;
+pub use stretch::{Passed, Stretch};

@@ -1,4 +1,5 @@
-// A writer that holds bytes back until it is full or flushed, so that a line is not one write for each of its numbers. It needs no allocator.
+// A writer that holds bytes back until it is full or flushed, so that a line is not one write for each of its numbers.
+// Stays: (a) std's `BufWriter` takes its buffer from an allocator, and nothing here allocates.
 ghost use Rattle.std.specs.Prelude.{◌≤◌};
 
 use std::io;

@@ -8,17 +8,17 @@ use borrow.Author.Tests.{ltb-true, ltb-false}
 use lib.Dec.{ltb}
 use lib.ListN.{length, take, drop, length-append, length-drop}
 use lib.Seq.{take_at, drop_at}
+use Rattle.std.specs.Prelude.{Ok, Err}
 use Rattle.laws.proofs.Choice.{pick_ind}
 use Rattle.laws.proofs.Tests.{yes_or_no}
 use Rattle.laws.specs.Lists.{part}
 use Rattle.laws.specs.Results.{Result}
 use Rattle.answer.specs.declared.Refusal.{Refusal}
 use Rattle.answer.specs.declared.Refusal.TheVariants.{EndsTooSoon, WrongMark, WrongLength, OutOfPlace, WrongField, NotExpected, Missing, NotReadable}
-use Rattle.answer.specs.declared.Answer.{Answer}
-use Rattle.answer.specs.declared.Answer.TheVariants.{Accepted, OverLimit, WrongSignature, WrongVersion, Refused, TableFull}
+use Rattle.answer.specs.Answers.{Answer, answer_number, is_accepted}
+use Rattle.answer.specs.declared.Stopped.TheVariants.{Rule, OverLimit, WrongSignature, WrongVersion, TableFull}
 use Rattle.answer.specs.declared.Outcome as answer
 use Rattle.answer.specs.declared.Told.{Told}
-use Rattle.answer.specs.Answers.{answer_number, is_accepted}
 use Rattle.entry.specs.declared.Entry.{Entry}
 use Rattle.entry.specs.Entry.{size, numbers}
 use Rattle.entry.proofs.Table.{numbers_length}
@@ -77,11 +77,11 @@ module _ (s : List ℕ) (room : ℕ) where
       exact_only main (length s) (step_at s) (moves s) start file_header_size beyond main (omega arith) (omega arith) room r x
       ∙ ap (cut room) (sym (behind_head s good))
 
-  first_without_room : (listed s room).answer ≡ TableFull → Full (listing s).entries room (listed s room)
+  first_without_room : (listed s room).answer ≡ Err TableFull → Full (listing s).entries room (listed s room)
   first_without_room full =
       yes_or_no (is_accepted (head_of s).answer) (λ good. (full_table s room good full).0)
       (λ bad.
-      let answers : (head_of s).answer ≡ TableFull = sym (ap (λ (r : Listed). r.answer) (refused_head s room bad)) ∙ full in
+      let answers : (head_of s).answer ≡ Err TableFull = sym (ap (λ (r : Listed). r.answer) (refused_head s room bad)) ∙ full in
       absurd (omega (arith, head_number s, ap answer_number answers)))
 
   -- a listing holds exactly the entries found before its place
@@ -138,7 +138,7 @@ records_hold s table records r table' records' x =
 
 -- ### Numbers, and buffers that a refusal leaves
 
-refusal_number_lem : (r : Refusal) → answer_number (Refused r) ≤ 12
+refusal_number_lem : (r : Refusal) → answer_number (Err (Rule r)) ≤ 12
 refusal_number_lem EndsTooSoon = omega arith
 refusal_number_lem WrongMark = omega arith
 refusal_number_lem WrongLength = omega arith
@@ -150,12 +150,12 @@ refusal_number_lem NotReadable = omega arith
 
 -- every answer of a listing is one of 0 to 12
 pub listing_number : (a : Answer) → answer_number a ≤ 12
-listing_number Accepted = omega arith
-listing_number OverLimit = omega arith
-listing_number WrongSignature = omega arith
-listing_number WrongVersion = omega arith
-listing_number (Refused r) = refusal_number_lem r
-listing_number TableFull = omega arith
+listing_number (Ok _) = omega arith
+listing_number (Err OverLimit) = omega arith
+listing_number (Err WrongSignature) = omega arith
+listing_number (Err WrongVersion) = omega arith
+listing_number (Err (Rule r)) = refusal_number_lem r
+listing_number (Err TableFull) = omega arith
 
 -- by what an honest answer leaves
 honest_refuses :

@@ -9,7 +9,7 @@ use lib.ListN.{length, get_or}
 use Rattle.laws.specs.All.{All, both}
 use Rattle.laws.specs.Choice.{pick}
 use Rattle.laws.proofs.Filter.{filter_at}
-use Rattle.answer.specs.declared.Answer.TheVariants as answers
+use Rattle.answer.specs.Answers as answers
 use Rattle.entry.specs.declared.Code.{Code}
 use Rattle.entry.specs.declared.Entry.{Entry}
 use Rattle.entry.specs.Entry.{block, plain, is_kind}

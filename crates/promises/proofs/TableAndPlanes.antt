@@ -12,7 +12,7 @@ use Rattle.laws.proofs.Choice.{pick_ind}
 use Rattle.laws.proofs.Part.{part_length}
 use Rattle.laws.proofs.Filter.{filter_at}
 use Rattle.limits.specs.Limits.{plane_limit}
-use Rattle.answer.specs.declared.Answer.TheVariants as answers
+use Rattle.answer.specs.Answers as answers
 use Rattle.entry.specs.declared.Entry.{Entry}
 use Rattle.walk.proofs.Tiling.{tiles_order}
 use Rattle.listing.specs.Listing.{listed}

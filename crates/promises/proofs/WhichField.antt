@@ -6,6 +6,7 @@ use Prim.Native.Nat.{ℕ, ◌+◌, ◌≤◌, ◌<◌}
 use native.Mathlib.Omega.{arith}
 use lib.Dec.{eqb, ltb}
 use lib.ListN.{length}
+use Rattle.std.specs.Prelude.{None, Some, Err}
 use Rattle.laws.specs.All.{empty, both}
 use Rattle.laws.proofs.Choice.{pick_ind}
 use Rattle.laws.proofs.Part.{part_length}
@@ -14,9 +15,8 @@ use Rattle.rect.specs.Rect.{Sized}
 use Rattle.rect.specs.declared.planes.Shape.{Shape}
 use Rattle.answer.specs.declared.Refusal.{Refusal}
 use Rattle.answer.specs.declared.Refusal.TheVariants.{WrongField}
-use Rattle.answer.specs.declared.Answer.{Answer}
-use Rattle.answer.specs.declared.Answer.TheVariants.{Refused}
-use Rattle.answer.specs.Answers.{answer_number}
+use Rattle.answer.specs.Answers.{Answer, answer_number}
+use Rattle.answer.specs.declared.Stopped.TheVariants.{Rule}
 use Rattle.answer.proofs.OneOutcome.{answer_of, answer_back}
 use Rattle.entry.specs.declared.Entry.{Entry}
 use Rattle.walk.specs.Walk.{Step, Stop}
@@ -26,7 +26,6 @@ use Rattle.walk.specs.Course.{Stand, at_end, by_rule, Answered, said, full}
 use Rattle.walk.proofs.Invariant.{course_keeps}
 use Rattle.headers.specs.BlockHeader.{block_header_size}
 use Rattle.headers.specs.FileHeader.{file_header_size}
-use Rattle.attributes.specs.declared.fault.Fault.TheVariants.{None, At}
 use Rattle.attributes.specs.ImageAttributes.{image_rule}
 use Rattle.attributes.specs.Fault.{Field}
 use Rattle.attributes.proofs.Named.{starts, later}
@@ -65,7 +64,7 @@ use Rattle.promises.proofs.EveryInput.{head_number, listed_exact}
 
 -- the look that has a listing refuse
 refusing :
-    {S : Type 0} {room place : ℕ} {es : List Entry} {x : Stand S} {k : Step S} {a : Answer} (why : Refusal) → a ≡ Refused why
+    {S : Type 0} {room place : ℕ} {es : List Entry} {x : Stand S} {k : Step S} {a : Answer} (why : Refusal) → a ≡ Err (Rule why)
     → Answered room es x k a place → k ≡ Stop why place
 refusing why z (said at_end all enough) = let x : ◌≡◌ {A = ℕ} 0 1 = cc in absurd (omega arith)
 refusing why z (said (by_rule {r} {p}) all enough) = let same : r ≡ why = cc in ap (λ (q : Refusal). Stop q p) same
@@ -109,13 +108,13 @@ module _ (s : List ℕ) where
       → Chunked s at 5 channel_size
       → let c = channel_at s (at + block_header_size) in
       0 < st.current.left → codes_fault c ≡ None → is_awaited st p c ≡ true
-      → plane_fault (shape_for st.current st.image.depth c.bitmap) c ≡ At offset → Named s es at offset
+      → plane_fault (shape_for st.current st.image.depth c.bitmap) c ≡ Some offset → Named s es at offset
   plane_named {at} {offset} {p} u h host j room codes waited bad =
       let c = channel_at s (at + block_header_size) in
       let i = h.host in
       of_plane j host (in_host i) (record { permitted = codes_rules c codes; awaited = awaited s u h host c room waited at })
       (plane_names _ (limited s p i.host.block.place host i.permitted (depth_good s u) c.bitmap) _ (whole j) _
-      (subst (λ (f : Shape). plane_fault f c ≡ At offset) (shape_is s u h host c room waited at) bad))
+      (subst (λ (f : Shape). plane_fault f c ≡ Some offset) (shape_is s u h host c room waited at) bad))
 
   -- a fault, by what the walk knows there
   fault_named :
@@ -131,10 +130,10 @@ module _ (s : List ℕ) where
   fault_named low (begun u) (an_image's j none bad) = absurd (not_first s u none)
   fault_named {at} {offset} low (begun u) (a_palette's j b used bad) =
       of_palette j (λ z. used (depth_is s u ∙ z))
-      (palette_names _ _ (whole j) _ (subst (λ (d : ℕ). palette_fault d (palette_at s (at + block_header_size)) ≡ At offset) (depth_is s u) bad))
+      (palette_names _ _ (whole j) _ (subst (λ (d : ℕ). palette_fault d (palette_at s (at + block_header_size)) ≡ Some offset) (depth_is s u) bad))
   fault_named {at} {offset} {es} {st} low (begun u) (a_layer's j b deep is bad) =
       of_layer j (in_bank (open_bank s (subst (λ (l : ℕ). Underway s l es st) deep u) opens.Layers is layers_no_mask))
-      (layer_names _ _ (whole j) _ (subst (λ (d : ℕ). layer_fault d (layer_at s (at + block_header_size)) ≡ At offset) (depth_is s u) bad))
+      (layer_names _ _ (whole j) _ (subst (λ (d : ℕ). layer_fault d (layer_at s (at + block_header_size)) ≡ Some offset) (depth_is s u) bad))
   fault_named low (begun u) (a_selection's j b top bad) = of_selection j (selection_names _ (whole j) _ bad)
   fault_named {es} {st} low (begun u) (an_alpha's j b deep is bad) =
       of_alpha j (in_bank (open_bank s (subst (λ (l : ℕ). Underway s l es st) deep u) opens.Alphas is alphas_no_mask)) (alpha_names _ (whole j) _ bad)
@@ -151,9 +150,9 @@ module _ (s : List ℕ) where
 
   -- an input that is refused with 8: the place is that of the field whose rule fails, and those that are judged before it satisfy theirs
   pub which_field : (room : ℕ) → answer_number (listed s room).answer ≡ 8 → WhichField s (listed s room).entries (listed s room).place
-  which_field room eight = by (sym (answer_back (listed s room).answer) ∙ ap answer_of eight ∙ answer_back (Refused WrongField)) (listed_exact s room)
+  which_field room eight = by (sym (answer_back (listed s room).answer) ∙ ap answer_of eight ∙ answer_back (Err (Rule WrongField))) (listed_exact s room)
     where
-      by : {r : Listed} → r.answer ≡ Refused WrongField → Exact s room r → WhichField s r.entries r.place
+      by : {r : Listed} → r.answer ≡ Err (Rule WrongField) → Exact s room r → WhichField s r.entries r.place
       by z (header bad) = absurd (omega (arith, head_number s, ap answer_number z))
       by z (blocks good x) =
           let came = course_keeps main (length s) (step_at s) (moves s) (CameTo s) (kept s) start file_header_size beyond main (omega arith) (omega arith) fresh x.course in

@@ -1,10 +1,10 @@
 -- Demand 1: every input gets an end and an answer, however damaged or short; a refusal has its number and leaves what was lent.
 -- That a call ends, and that an entry point may be called with any arguments, the kit proves of each function that has no `requires`.
 -- Here stands what the answers say, and what they leave.
-use Rattle.std.specs.Prelude.{◌≡◌, ◌⊎◌, true, false, List, [], ℕ, ◌≤◌, length, take, drop}
+use Rattle.std.specs.Prelude.{◌≡◌, ◌⊎◌, true, false, List, [], ℕ, ◌≤◌, length, take, drop, Err}
 use Rattle.laws.specs.Results.{Result}
-use Rattle.answer.specs.declared.Answer.TheVariants.{TableFull}
 use Rattle.answer.specs.Answers.{is_accepted}
+use Rattle.answer.specs.declared.Stopped.TheVariants.{TableFull}
 use Rattle.walk.specs.Room.{Listed}
 use Rattle.walk.specs.Promised.{Full}
 use Rattle.walk.specs.Course.{Stand, stand, Exactly}
@@ -34,9 +34,9 @@ pub record ListsExactly (s : List ℕ) (room : ℕ) : Type 0 where
   pub exact : Exact s room (listed s room)
   pub only : (r : Listed) → Exact s room r → r ≡ listed s room
   -- any larger room gives every answer but "table full" the same number, place and entries
-  pub larger : (more : ℕ) → room ≤ more → ((listed s room).answer ≡ TableFull → ⊥) → listed s more ≡ listed s room
+  pub larger : (more : ℕ) → room ≤ more → ((listed s room).answer ≡ Err TableFull → ⊥) → listed s more ≡ listed s room
   -- and "table full" names the first entry that did not fit
-  pub first_out : (listed s room).answer ≡ TableFull → Full (listing s).entries room (listed s room)
+  pub first_out : (listed s room).answer ≡ Err TableFull → Full (listing s).entries room (listed s room)
 
 -- ### What is lent is left
 

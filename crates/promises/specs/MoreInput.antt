@@ -1,9 +1,10 @@
 -- Demand 3: more input never takes anything back. One input is the beginning of another, both within the size limit, and the longer has at
 -- least as much table room.
-use Rattle.std.specs.Prelude.{◌≡◌, true, List, ◌++◌, ℕ, ◌<◌, length, get_or}
+use Rattle.std.specs.Prelude.{◌≡◌, true, List, ◌++◌, ℕ, ◌<◌, length, get_or, Err}
 use Rattle.laws.specs.Results.{Result}
 use Rattle.answer.specs.declared.Refusal.TheVariants.{EndsTooSoon}
-use Rattle.answer.specs.declared.Answer.TheVariants.{Accepted, Refused, TableFull}
+use Rattle.answer.specs.Answers.{Accepted}
+use Rattle.answer.specs.declared.Stopped.TheVariants.{Rule, TableFull}
 use Rattle.entry.specs.declared.Entry.{Entry}
 use Rattle.packet.specs.declared.told.Plane.{Plane}
 use Rattle.packet.specs.Reading.{plane_read}
@@ -28,5 +29,5 @@ pub record Kept (s t : List ℕ) (room more : ℕ) : Type 0 where
       → plane_of (s ++ t) (get_or (listed (s ++ t) more).entries k d) dest ≡ plane_of s (get_or (listed s room).entries k d) dest
   -- refused for anything but ending too soon or a full table, the longer gets that same refusal, place and list
   pub refusal :
-      ((listed s room).answer ≡ Accepted → ⊥) → ((listed s room).answer ≡ Refused EndsTooSoon → ⊥) → ((listed s room).answer ≡ TableFull → ⊥)
+      ((listed s room).answer ≡ Accepted → ⊥) → ((listed s room).answer ≡ Err (Rule EndsTooSoon) → ⊥) → ((listed s room).answer ≡ Err TableFull → ⊥)
       → listed (s ++ t) more ≡ listed s room

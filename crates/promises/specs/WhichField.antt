@@ -1,6 +1,6 @@
 -- Document 02, request (vi): answer 8 says which field. Of the block that was judged last, its chunk all there, it names the field whose rule
 -- fails; every field that is judged before it satisfies its own.
-use Rattle.std.specs.Prelude.{◌≡◌, true, List, [], ◌∷◌, ℕ, ◌+◌, ◌≤◌, take}
+use Rattle.std.specs.Prelude.{◌≡◌, true, List, [], ◌∷◌, ℕ, ◌+◌, ◌≤◌, take, None}
 use Rattle.laws.specs.All.{All}
 use Rattle.laws.specs.Lists.{part}
 use Rattle.entry.specs.declared.Entry.{Entry}
@@ -9,7 +9,6 @@ use Rattle.walk.specs.Promised.{Tiles}
 use Rattle.walk.specs.Parents.{holds, holder}
 use Rattle.headers.specs.BlockHeader.{block_header_size}
 use Rattle.headers.specs.FileHeader.{file_header_size}
-use Rattle.attributes.specs.declared.fault.Fault.TheVariants.{None}
 use Rattle.attributes.specs.Fault.{Field, earliest, Names}
 use Rattle.attributes.specs.ImageAttributes.{image_size, image_rule}
 use Rattle.chunk.specs.AlphaInformation.{alpha_size, alpha_rule}

@@ -1,4 +1,3 @@
--- Laws of what the entry points leave: what is told of an answer, and a listing in a table and in records.
-pub mod Told
+-- Laws of listing into records: what the records hold, and that the count fits both.
 pub mod Records
 pub mod Listed

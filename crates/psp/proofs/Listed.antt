@@ -7,11 +7,13 @@ use borrow.Author.Tests.{ltb-true, ltb-false}
 use lib.ListN.{length, drop}
 use Rattle.laws.specs.Results.{Result}
 use Rattle.laws.proofs.Choice.{pick_ind}
+use Rattle.answer.specs.declared.Outcome.{Outcome}
 use Rattle.answer.specs.declared.Told.{Told}
+use Rattle.answer.specs.Answers.{paper}
 use Rattle.entry.specs.declared.Entry.{Entry}
 use Rattle.entry.specs.Entry.{size}
 use Rattle.walk.proofs.Cut.{cut_room}
-use Rattle.listing.specs.Listing.{listing, listed, room_up_to, lists_up_to}
+use Rattle.listing.specs.Listing.{listing, listed, room_up_to, lists_up_to, left_by}
 use Rattle.psp.specs.Recorded.{records_of, ListedRecords}
 use Rattle.psp.proofs.Records.{records_are}
 
@@ -22,13 +24,20 @@ room_table most t = pick_ind (λ (n : ℕ). n ≤ length t / size) _ _ _ (λ les
 room_most : (most : ℕ) (t : List ℕ) → room_up_to most t ≤ most
 room_most most t = pick_ind (λ (n : ℕ). n ≤ most) _ _ _ (λ _. omega arith) (λ no. ltb-false most (length t / size) no)
 
-module _ (s ts : List ℕ) (ys : List Entry) (r : Told) (zs : List ℕ) (e : record { told = r; dest = zs } ≡ lists_up_to s (length ys) ts) where
+module _
+    (s ts : List ℕ)
+    (ys : List Entry)
+    (o : Outcome)
+    (r : Told)
+    (zs : List ℕ)
+    (t : r ≡ paper o)
+    (e : left_by o zs ≡ lists_up_to s (length ys) ts) where
   abbrev es : List Entry
   es = (listed s (room_up_to (length ys) ts)).entries
 
   counted : r.count ≡ length es
   unfolding lists_up_to
-  counted = ap (λ (x : Result Told). x.told.count) e
+  counted = ap (λ (n : Told). n.count) t ∙ ap (λ (x : Result Told). x.told.count) e
 
   few : length es ≤ room_up_to (length ys) ts
   few = cut_room (room_up_to (length ys) ts) (listing s)
@@ -42,8 +51,8 @@ module _ (s ts : List ℕ) (ys : List Entry) (r : Told) (zs : List ℕ) (e : rec
   pub recorded : (ws : List Entry) → ws ≡ records_of zs r.count ys → ListedRecords s ts ys r zs ws
   unfolding lists_up_to
   recorded ws w = record {
-    lists = e;
+    lists = ap (λ (n : Told). record { told = n; dest = zs }) t ∙ e;
     stores =
-        w ∙ ap₂ (λ (t : List ℕ) (k : ℕ). records_of t k ys) (ap (λ (x : Result Told). x.dest) e) counted
+        w ∙ ap₂ (λ (table : List ℕ) (k : ℕ). records_of table k ys) (ap (λ (x : Result Told). x.dest) e) counted
         ∙ records_are es (drop (size * length es) ts) ys (omega (arith, few, room_most (length ys) ts));
   }

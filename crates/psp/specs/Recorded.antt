@@ -14,7 +14,7 @@ records_of t (suc k) old = set (records_of t k old) k (entry_at t (k * size))
 abbrev pub Stores : List ℕ → List ℕ → List Entry → List Entry → Type 0
 Stores s table records records' = let es = (listed s (room_up_to (length records) table)).entries in records' ≡ es ++ drop (length es) records
 
--- what `psp_list_records` leaves: the listing in the smaller room, in the table and in the records; both rests are untouched
+-- what `list_records` leaves: the listing in the smaller room, in the table and in the records; both rests are untouched
 pub record ListedRecords (s table : List ℕ) (records : List Entry) (r : Told) (table' : List ℕ) (records' : List Entry) : Type 0 where
   pub lists : record { told = r; dest = table' } ≡ lists_up_to s (length records) table
   pub stores : Stores s table records records'

@@ -1,14 +1,10 @@
-// The library's entry points, as functions over numbers and lent slices. None has a `requires`: the function behind it tests its own
-// arguments, and an answer comes in document 01's numbers. Crate psp_c exports them to C.
+// What the library has beside its parts: listing into a lent slice of records, and its version. Neither has a `requires`. Crate psp_c exports
+// both to C, beside the entry points of the crates below.
 
 #![tactic(auto)]
 
-pub mod asked;
-pub mod at;
-pub mod filed;
-pub mod placing;
-pub mod planes;
-pub mod recorded;
-pub mod shown;
-pub mod tabled;
-pub mod version;
+mod recorded;
+mod version;
+
+pub use recorded::list_records;
+pub use version::VERSION;

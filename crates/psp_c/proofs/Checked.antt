@@ -3,18 +3,18 @@ use mathlib.Core.Path.{◌≡◌, sym, ap, subst, ◌∙◌}
 use mathlib.Core.List.{List}
 use Prim.Native.Nat.{ℕ, ◌*◌, ◌/◌, ◌≤◌, ◌<◌}
 use lib.ListN.{length}
+use Rattle.std.specs.Prelude.{Ok}
 use Rattle.laws.specs.Outcomes.{Call}
 use Rattle.laws.specs.Results.{Result}
 use Rattle.laws.proofs.OneOutcome.{call_is}
 use Rattle.answer.specs.declared.Told.{Told}
 use Rattle.entry.specs.Entry.{size, nowhere, entry_at}
 use Rattle.listing.specs.Listing.{listed, lists}
-use Rattle.pencil.specs.declared.paper.Reply.TheVariants.{Found}
 use Rattle.pencil.specs.Agrees.{asked}
 use Rattle.pencil.proofs.Agree.{agrees, agrees_with}
 use Rattle.asking.specs.declared.numbers.Asked.{Asked}
 use Rattle.asking.specs.Told.{told}
-use Rattle.psp.specs.Checked.{Checks}
+use Rattle.psp_c.specs.Checked.{Checks}
 use Rattle.psp_c.proofs.asked.psp_entry_at.Reads as entry_at
 use Rattle.psp_c.proofs.tabled.psp_list.Reads as list
 
@@ -37,7 +37,7 @@ psp_entry_checks = record {
       let is = listing_is x in
       asking_is y
       ∙ ap told ((agrees_with s t).entry k _ (subst (λ (r : Result Told). k < r.told.count) is low) ((agrees s (length t / size)).gives k))
-      ∙ ap (λ (r : Result Told). told (Found (entry_at r.dest (k * size)))) (sym is);
+      ∙ ap (λ (r : Result Told). told (Ok (entry_at r.dest (k * size)))) (sym is);
   answer = λ s t k l a x y past.
       let is = listing_is x in
       let f = (agrees_with s t).answer k _ (subst (λ (r : Result Told). r.told.count ≤ k) is past) ((agrees s (length t / size)).gives k) in

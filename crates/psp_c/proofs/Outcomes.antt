@@ -1,5 +1,5 @@
 -- One outcome of each exported function: what its contract admits is one answer, and one end content of each buffer.
-use mathlib.Core.Path.{◌≡◌, refl, ap, ◌∙◌}
+use mathlib.Core.Path.{◌≡◌, refl}
 use mathlib.Core.List.{List}
 use Prim.Native.Nat.{ℕ}
 use base.Logic.{emp}

@@ -11,5 +11,5 @@ use asking::Asked;
 pub extern "C" fn psp_entry_at(input: &[u8], room: usize, k: usize) -> Asked
     ensures { result ≡ told (asked (listed input.now room) k) }
 {
-    psp::asked::psp_entry_at(input, room, k)
+    asking::entry_at(input, room, k).into()
 }

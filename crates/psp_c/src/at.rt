@@ -10,7 +10,7 @@ use view::{LayerFacts, Part};
 pub extern "C" fn psp_layer_at(input: &[u8], place: usize) -> LayerFacts
     ensures { result ≡ layer_facts_at input.now place }
 {
-    psp::at::psp_layer_at(input, place)
+    view::layer_at(input, place)
 }
 
 // Which part of the input is the name of the layer there.
@@ -18,21 +18,21 @@ pub extern "C" fn psp_layer_at(input: &[u8], place: usize) -> LayerFacts
 pub extern "C" fn psp_name_at(input: &[u8], place: usize) -> Part
     ensures { result ≡ name_view_at input.now place }
 {
-    psp::at::psp_name_at(input, place)
+    view::name_at(input, place)
 }
 
 #[unsafe(no_mangle)]
 pub extern "C" fn psp_selection_at(input: &[u8], place: usize) -> SelectionFacts
     ensures { result ≡ selection_facts_at input.now place }
 {
-    psp::at::psp_selection_at(input, place)
+    mask_view::selection_at(input, place)
 }
 
 #[unsafe(no_mangle)]
 pub extern "C" fn psp_alpha_at(input: &[u8], place: usize) -> AlphaFacts
     ensures { result ≡ alpha_facts_at input.now place }
 {
-    psp::at::psp_alpha_at(input, place)
+    mask_view::alpha_at(input, place)
 }
 
 // Which part of the input is the name of the alpha channel there.
@@ -40,5 +40,5 @@ pub extern "C" fn psp_alpha_at(input: &[u8], place: usize) -> AlphaFacts
 pub extern "C" fn psp_alpha_name_at(input: &[u8], place: usize) -> Part
     ensures { result ≡ alpha_name_view_at input.now place }
 {
-    psp::at::psp_alpha_name_at(input, place)
+    mask_view::alpha_name_at(input, place)
 }

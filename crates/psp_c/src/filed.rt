@@ -10,7 +10,7 @@ use saved::writer::Saved;
 pub extern "C" fn psp_write_table(table: &[u32], dest: &mut [u8]) -> Saved
     ensures { record { told = result; dest = dest.new } ≡ writes table.now dest.old }
 {
-    psp::filed::psp_write_table(table, dest)
+    saved::write_table(table, dest).into()
 }
 
 // Reads such a file into a table. A refusal leaves the table untouched, and no number past the entries changes.
@@ -18,5 +18,5 @@ pub extern "C" fn psp_write_table(table: &[u32], dest: &mut [u8]) -> Saved
 pub extern "C" fn psp_read_table(file: &[u8], table: &mut [u32]) -> Restored
     ensures { record { told = result; dest = table.new } ≡ reads file.now table.old }
 {
-    psp::filed::psp_read_table(file, table)
+    saved::read_table(file, table).into()
 }

@@ -17,12 +17,12 @@ pub extern "C" fn psp_place(
 ) -> u32
     ensures { record { told = result; dest = canvas.new } ≡ placed width height canvas.old r plane.now row }
 {
-    psp::placing::psp_place(width, height, canvas, r, plane, row)
+    canvas::number(canvas::place(width, height, canvas, r, plane, row))
 }
 
 #[unsafe(no_mangle)]
 pub extern "C" fn psp_intersect(a: Rect, b: Rect) -> Rect
     ensures { result ≡ shared_of a b }
 {
-    psp::placing::psp_intersect(a, b)
+    a.intersect(b)
 }

@@ -18,7 +18,7 @@ pub extern "C" fn psp_read_plane(
 ) -> Plane
     ensures { record { told = result; dest = dest.new } ≡ plane_read input.now start stored plane code dest.old }
 {
-    psp::planes::psp_read_plane(input, start, stored, plane, code, dest)
+    reading::read_plane(input, start, stored, plane, code, dest).into()
 }
 
 // Reads a stream of packets. A refusal leaves dest untouched.
@@ -26,7 +26,7 @@ pub extern "C" fn psp_read_plane(
 pub extern "C" fn psp_unpack(stream: &[u8], dest: &mut [u8], plane: usize) -> Plane
     ensures { record { told = result; dest = dest.new } ≡ unpacked stream.now plane dest.old }
 {
-    psp::planes::psp_unpack(stream, dest, plane)
+    reading::unpack(stream, dest, plane).into()
 }
 
 // Packs a plane. A refusal leaves dest untouched, and no byte past the packed form changes.
@@ -34,5 +34,5 @@ pub extern "C" fn psp_unpack(stream: &[u8], dest: &mut [u8], plane: usize) -> Pl
 pub extern "C" fn psp_pack(plane: &[u8], dest: &mut [u8]) -> Packed
     ensures { record { told = result; dest = dest.new } ≡ packs plane.now dest.old }
 {
-    psp::planes::psp_pack(plane, dest)
+    packer::pack(plane, dest).into()
 }

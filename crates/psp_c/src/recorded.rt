@@ -10,5 +10,5 @@ use entry::Entry;
 pub extern "C" fn psp_list_records(input: &[u8], table: &mut [u32], records: &mut [Entry]) -> Told
     ensures { ListedRecords input.now table.old records.old result table.new records.new }
 {
-    psp::recorded::psp_list_records(input, table, records)
+    psp::list_records(input, table, records)
 }

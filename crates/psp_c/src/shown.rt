@@ -7,7 +7,7 @@ ghost use Rattle.view.specs.Facts.{image_facts, layer_facts};
 ghost use Rattle.view.specs.Name.{name_view};
 ghost use Rattle.view.specs.Palette.{palette_view};
 
-use attributes::resolution::Dots;
+use attributes::resolution::{Dots, Resolution};
 use mask_view::{AlphaFacts, SelectionFacts};
 use view::{ImageFacts, LayerFacts, Part};
 
@@ -16,7 +16,7 @@ use view::{ImageFacts, LayerFacts, Part};
 pub extern "C" fn psp_palette(input: &[u8], room: usize, ramp: &[u8]) -> Part
     ensures { result ≡ palette_view input.now room (length ramp.now) }
 {
-    psp::shown::psp_palette(input, room, ramp)
+    view::palette_part(input, room, ramp.len())
 }
 
 // Which part of the input is the name of layer k.
@@ -24,7 +24,7 @@ pub extern "C" fn psp_palette(input: &[u8], room: usize, ramp: &[u8]) -> Part
 pub extern "C" fn psp_name(input: &[u8], room: usize, k: u32) -> Part
     ensures { result ≡ name_view input.now room k }
 {
-    psp::shown::psp_name(input, room, k)
+    view::name_part(input, room, k)
 }
 
 // Which part of the input is the name of alpha channel k.
@@ -32,35 +32,35 @@ pub extern "C" fn psp_name(input: &[u8], room: usize, k: u32) -> Part
 pub extern "C" fn psp_alpha_name(input: &[u8], room: usize, k: u32) -> Part
     ensures { result ≡ alpha_name_view input.now room k }
 {
-    psp::shown::psp_alpha_name(input, room, k)
+    mask_view::alpha_name_part(input, room, k)
 }
 
 #[unsafe(no_mangle)]
 pub extern "C" fn psp_read_image_facts(input: &[u8], room: usize) -> ImageFacts
     ensures { result ≡ image_facts input.now room }
 {
-    psp::shown::psp_read_image_facts(input, room)
+    view::image_facts(input, room)
 }
 
 #[unsafe(no_mangle)]
 pub extern "C" fn psp_read_layer_facts(input: &[u8], room: usize, k: u32) -> LayerFacts
     ensures { result ≡ layer_facts input.now room k }
 {
-    psp::shown::psp_read_layer_facts(input, room, k)
+    view::layer_facts(input, room, k)
 }
 
 #[unsafe(no_mangle)]
 pub extern "C" fn psp_read_selection_facts(input: &[u8], room: usize) -> SelectionFacts
     ensures { result ≡ selection_facts input.now room }
 {
-    psp::shown::psp_read_selection_facts(input, room)
+    mask_view::selection_facts(input, room)
 }
 
 #[unsafe(no_mangle)]
 pub extern "C" fn psp_read_alpha_facts(input: &[u8], room: usize, k: u32) -> AlphaFacts
     ensures { result ≡ alpha_facts input.now room k }
 {
-    psp::shown::psp_read_alpha_facts(input, room, k)
+    mask_view::alpha_facts(input, room, k)
 }
 
 // Dots per centimetre of a resolution, where there are any.
@@ -68,5 +68,5 @@ pub extern "C" fn psp_read_alpha_facts(input: &[u8], room: usize, k: u32) -> Alp
 pub extern "C" fn psp_dots_per_centimetre(value: f64, metric: u8) -> Dots
     ensures { result ≡ dots_of (density_of (record { value = value; metric = metric })) }
 {
-    psp::shown::psp_dots_per_centimetre(value, metric)
+    Resolution { value, metric }.per_centimetre().into()
 }

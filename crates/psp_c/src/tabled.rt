@@ -9,7 +9,7 @@ use answer::Told;
 pub extern "C" fn psp_list(input: &[u8], table: &mut [u32]) -> Told
     ensures { record { told = result; dest = table.new } ≡ lists input.now table.old }
 {
-    psp::tabled::psp_list(input, table)
+    listing::list(input, table).into()
 }
 
 // The answer of a listing with a room for so many entries; nothing is stored.
@@ -17,5 +17,5 @@ pub extern "C" fn psp_list(input: &[u8], table: &mut [u32]) -> Told
 pub extern "C" fn psp_count(input: &[u8], room: usize) -> Told
     ensures { result ≡ told (listed input.now room) }
 {
-    psp::tabled::psp_count(input, room)
+    listing::count(input, room).into()
 }

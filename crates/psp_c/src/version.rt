@@ -7,5 +7,5 @@ ghost use Rattle.psp.specs.Version.{version};
 pub extern "C" fn psp_version() -> u32
     ensures { result ≡ version }
 {
-    psp::version::psp_version()
+    psp::VERSION
 }

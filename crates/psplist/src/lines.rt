@@ -4,16 +4,16 @@ ghost use Rattle.std.specs.Prelude.{◌≡◌};
 ghost use Rattle.listing.specs.Listing.{left_by};
 ghost use Rattle.psplist.specs.Program.{program_lists};
 
-use answer::{Answer, Outcome, Told};
-use entry::Entry;
-use printing::text;
-use std::io;
+use answer::{Outcome, Stopped, Told};
+use entry::{Content, Entry};
+use headers::kind::Kind;
 use std::io::Write;
+use std::{fmt, io};
 
 // Bytes of the program's input, and the numbers of a table with room for its 512 entries.
 pub const INPUT: usize = 65536;
 
-const TABLE: usize = 512 * Entry::SIZE;
+const TABLE: usize = 7168;
 
 // The listing, under the program's own limit.
 pub fn list(input: &[u8], table: &mut [u32]) -> Outcome
@@ -21,7 +21,7 @@ pub fn list(input: &[u8], table: &mut [u32]) -> Outcome
 {
     if INPUT < input.len() {
         return Outcome {
-            answer: Answer::OverLimit,
+            answer: Err(Stopped::OverLimit),
             place: 0,
             count: 0,
         };
@@ -30,103 +30,101 @@ pub fn list(input: &[u8], table: &mut [u32]) -> Outcome
 }
 
 pub fn show(out: &mut impl Write, input: &[u8]) -> io::Result<()> {
-    let mut table = [0u32; TABLE];
-    show_in(out, input, &mut table)
-}
-
-// The same with the room of a lent table.
-fn show_in(out: &mut impl Write, input: &[u8], table: &mut [u32]) -> io::Result<()> {
-    let told = list(input, table).told();
-    first_line(out, told)?;
-    entries(out, table, told.count)
-}
-
-fn first_line(out: &mut impl Write, told: Told) -> io::Result<()> {
-    text(out, b"answer")?;
-    printing::number(out, told.number as u64)?;
-    text(out, b" place")?;
-    printing::number(out, told.place as u64)?;
-    text(out, b" entries")?;
-    printing::number(out, told.count as u64)?;
-    text(out, b"\n")
-}
-
-// The first count entries, of those that the table has.
-fn entries(out: &mut impl Write, table: &[u32], count: usize) -> io::Result<()> {
-    let mut index = 0;
-    while index < count {
-        if index < table.len() / Entry::SIZE {
-            line(out, index, Entry::read(table, index * Entry::SIZE))?;
-        }
-        index += 1;
+    let mut table = [0; TABLE];
+    let told = Told::from(list(input, &mut table));
+    writeln!(
+        out,
+        "answer {} place {} entries {}",
+        told.number, told.place, told.count
+    )?;
+    let (entries, _) = table.as_chunks::<{ Entry::SIZE }>();
+    for (index, numbers) in entries.iter().take(told.count).enumerate() {
+        writeln!(out, "{index} {}", Line(Entry::from(*numbers)))?;
     }
     Ok(())
 }
 
-fn line(out: &mut impl Write, index: usize, e: Entry) -> io::Result<()> {
-    write!(out, "{index}")?;
-    if e.block.skipped == 0 {
-        kind(out, e.block.id)?;
-        common(out, e)?;
-        own(out, e)?;
-    } else {
-        text(out, b" skip")?;
-        common(out, e)?;
-        content(out, e)?;
-        number(out, e.block.id)?;
+// An entry as its line has it, behind the index.
+#[derive(Clone, Copy)]
+struct Line(Entry);
+
+impl fmt::Display for Line {
+    fn fmt<W: fmt::Write>(&self, f: &mut fmt::Formatter<W>) -> fmt::Result {
+        let e = self.0;
+        let block = e.block;
+        if block.skipped != 0 {
+            return write!(f, "skip{}{} {}", Common(e), Stored(e.content), block.id);
+        }
+        let kind = kind(block.id);
+        write!(f, "{}{}", name(kind), Common(e))?;
+        match kind {
+            Some(Kind::Palette) => write!(f, "{}", Stored(e.content)),
+            Some(Kind::Layer | Kind::Alpha) => write!(f, " {}", e.layer),
+            Some(Kind::Channel) => write!(f, "{}", Plane(e)),
+            _ => Ok(()),
+        }
     }
-    text(out, b"\n")
 }
 
-// Of a block that is not skipped.
-fn kind(out: &mut impl Write, id: u32) -> io::Result<()> {
-    match id {
-        0 => text(out, b" image"),
-        2 => text(out, b" palette"),
-        3 => text(out, b" bank"),
-        4 => text(out, b" layer"),
-        6 => text(out, b" selection"),
-        7 => text(out, b" alphabank"),
-        8 => text(out, b" alpha"),
-        _ => text(out, b" channel"),
+// What a block is, by its entry's id.
+fn kind(id: u32) -> Option<Kind> {
+    Kind::try_from(u16::try_from(id).ok()?).ok()
+}
+
+// The kind of a block that is not skipped, in a word. What is none of those before is a channel.
+fn name(kind: Option<Kind>) -> &'static str {
+    match kind {
+        Some(Kind::Image) => "image",
+        Some(Kind::Palette) => "palette",
+        Some(Kind::Bank) => "bank",
+        Some(Kind::Layer) => "layer",
+        Some(Kind::Selection) => "selection",
+        Some(Kind::AlphaBank) => "alphabank",
+        Some(Kind::Alpha) => "alpha",
+        _ => "channel",
     }
 }
 
 // The numbers that every kind has.
-fn common(out: &mut impl Write, e: Entry) -> io::Result<()> {
-    number(out, e.block.level)?;
-    number(out, e.block.place)?;
-    number(out, e.block.owned)
-}
+#[derive(Clone, Copy)]
+struct Common(Entry);
 
-// The numbers that only some kinds have.
-fn own(out: &mut impl Write, e: Entry) -> io::Result<()> {
-    let id = e.block.id;
-    match id {
-        2 => content(out, e),
-        4 => number(out, e.layer),
-        5 => channel(out, e),
-        8 => number(out, e.layer),
-        _ => Ok(()),
+impl fmt::Display for Common {
+    fn fmt<W: fmt::Write>(&self, f: &mut fmt::Formatter<W>) -> fmt::Result {
+        let block = self.0.block;
+        write!(f, " {} {} {}", block.level, block.place, block.owned)
     }
 }
 
-fn content(out: &mut impl Write, e: Entry) -> io::Result<()> {
-    number(out, e.content.start)?;
-    number(out, e.content.stored)
+// Where content is.
+#[derive(Clone, Copy)]
+struct Stored(Content);
+
+impl fmt::Display for Stored {
+    fn fmt<W: fmt::Write>(&self, f: &mut fmt::Formatter<W>) -> fmt::Result {
+        write!(f, " {} {}", self.0.start, self.0.stored)
+    }
 }
 
-fn channel(out: &mut impl Write, e: Entry) -> io::Result<()> {
-    number(out, e.layer)?;
-    number(out, e.code.bitmap)?;
-    number(out, e.code.channel)?;
-    content(out, e)?;
-    number(out, e.size.width)?;
-    number(out, e.size.height)?;
-    number(out, e.size.plane)?;
-    number(out, e.size.row)
-}
+// The numbers that a channel has.
+#[derive(Clone, Copy)]
+struct Plane(Entry);
 
-fn number(out: &mut impl Write, n: u32) -> io::Result<()> {
-    printing::number(out, n as u64)
+impl fmt::Display for Plane {
+    fn fmt<W: fmt::Write>(&self, f: &mut fmt::Formatter<W>) -> fmt::Result {
+        let e = self.0;
+        write!(
+            f,
+            " {} {} {}{}",
+            e.layer,
+            e.code.bitmap,
+            e.code.channel,
+            Stored(e.content)
+        )?;
+        write!(
+            f,
+            " {} {} {} {}",
+            e.size.width, e.size.height, e.size.plane, e.size.row
+        )
+    }
 }

@@ -2,6 +2,7 @@
 use mathlib.Core.Path.{◌≡◌, refl, sym, ap, ◌∙◌}
 use mathlib.Core.List.{List, ◌++◌}
 use Prim.Native.Nat.{ℕ, ◌≤◌}
+use native.Mathlib.Omega.{arith}
 use borrow.Author.Tests.{le-ltb}
 use lib.Dec.{eqb}
 use lib.ListN.{length, take, drop}
@@ -9,10 +10,11 @@ use lib.Seq.{length-take-le}
 use Rattle.laws.specs.Choice.{pick}
 use Rattle.laws.specs.Outcomes.{OneOutcome}
 use Rattle.packet.specs.Stream.{Outcome, bytes, refused, meaning}
-use Rattle.packet.specs.Reading.{paper, left_by, verdict, laid, unpacked}
+use Rattle.std.specs.Prelude.{Ok, Err}
+use Rattle.packet.specs.Reading.{PlaneAnswer, paper, left_by, verdict, laid, unpacked}
 use Rattle.packet.specs.declared.told.Plane.{Plane}
-use Rattle.packet.specs.declared.PlaneAnswer.{PlaneAnswer}
-use Rattle.packet.specs.declared.PlaneAnswer.TheVariants.{Whole, NoRoom, Count128, Missing, TooMuch, UnknownCode, RawLength, OverLimit, Outside}
+use Rattle.packet.specs.declared.answer.PlaneError.{PlaneError}
+use Rattle.packet.specs.declared.answer.PlaneError.TheVariants.{NoRoom, Count128, Missing, TooMuch, UnknownCode, RawLength, OverLimit, Outside}
 use Rattle.laws.proofs.Choice.{pick_no}
 use Rattle.laws.proofs.OneOutcome.{result_one}
 use Rattle.reading.proofs.plane.read_plane.Reads as read-plane
@@ -21,27 +23,27 @@ use Rattle.reading.proofs.packets.unpack.Reads as unpack
 -- the answer that a paper tells of
 answer_of : Plane → PlaneAnswer
 answer_of p =
-    pick (eqb p.number 0) (Whole p.place p.bytes)
-    (pick (eqb p.number 20) NoRoom
-    (pick (eqb p.number 21) (Count128 p.place)
-    (pick (eqb p.number 22) (Missing p.place)
-    (pick (eqb p.number 23) (TooMuch p.place)
-    (pick (eqb p.number 24) UnknownCode
-    (pick (eqb p.number 25) RawLength
-    (pick (eqb p.number 26) OverLimit
-    Outside)))))))
+    pick (eqb p.number 0) (Ok (record { stored = p.place; plane = p.bytes }))
+    (pick (eqb p.number 20) (Err NoRoom)
+    (pick (eqb p.number 21) (Err (Count128 p.place))
+    (pick (eqb p.number 22) (Err (Missing p.place))
+    (pick (eqb p.number 23) (Err (TooMuch p.place))
+    (pick (eqb p.number 24) (Err UnknownCode)
+    (pick (eqb p.number 25) (Err RawLength)
+    (pick (eqb p.number 26) (Err OverLimit)
+    (Err Outside))))))))
 
 answer_back : (a : PlaneAnswer) → answer_of (paper a) ≡ a
 unfolding answer_of pick
-answer_back (Whole stored plane) = refl
-answer_back NoRoom = refl
-answer_back (Count128 place) = refl
-answer_back (Missing place) = refl
-answer_back (TooMuch place) = refl
-answer_back UnknownCode = refl
-answer_back RawLength = refl
-answer_back OverLimit = refl
-answer_back Outside = refl
+answer_back (Ok read) = refl
+answer_back (Err NoRoom) = refl
+answer_back (Err (Count128 place)) = refl
+answer_back (Err (Missing place)) = refl
+answer_back (Err (TooMuch place)) = refl
+answer_back (Err UnknownCode) = refl
+answer_back (Err RawLength) = refl
+answer_back (Err OverLimit) = refl
+answer_back (Err Outside) = refl
 
 pub unpack_one : OneOutcome (λ l e. e.1.0.now) unpack.Learnt
 unpack_one l a y z e f = result_one paper answer_of answer_back _ y z _ _
@@ -72,8 +74,19 @@ unpacked_is stream plane dest a after h e f =
     ◌∙◌ {b = record { told = verdict (length stream) plane (meaning stream plane); dest = laid plane dest (meaning stream plane) }}
     (λ i. record { told = e i; dest = f i }) (sym (pick_no _ _ _ (le-ltb (length dest) plane h)))
 
+-- a refusal has a number
+numbered : (e : PlaneError) → (paper (Err e)).number ≡ 0 → ⊥
+numbered NoRoom z = omega arith
+numbered (Count128 place) z = omega arith
+numbered (Missing place) z = omega arith
+numbered (TooMuch place) z = omega arith
+numbered UnknownCode z = omega arith
+numbered RawLength z = omega arith
+numbered OverLimit z = omega arith
+numbered Outside z = omega arith
+
 pub unpacked_refused :
-    (stream : List ℕ) (plane : ℕ) (dest : List ℕ) (a : PlaneAnswer) → plane ≤ length dest → ((paper a).number ≡ 0 → ⊥)
-    → paper a ≡ verdict (length stream) plane (meaning stream plane) → left_by a dest ≡ unpacked stream plane dest
-unpacked_refused stream plane dest a h other e =
-    unpacked_is stream plane dest a dest h e (left_alone a (length stream) plane dest (meaning stream plane) other e)
+    (stream : List ℕ) (plane : ℕ) (dest : List ℕ) (e : PlaneError) → plane ≤ length dest
+    → paper (Err e) ≡ verdict (length stream) plane (meaning stream plane) → left_by (Err e) dest ≡ unpacked stream plane dest
+unpacked_refused stream plane dest e h says =
+    unpacked_is stream plane dest (Err e) dest h says (left_alone (Err e) (length stream) plane dest (meaning stream plane) (numbered e) says)

@@ -4,7 +4,7 @@ ghost use Rattle.packet.specs.Reading.{left_by, unpacked};
 
 use judging::test;
 use laying::write;
-use packet::PlaneAnswer;
+use packet::{PlaneAnswer, PlaneError};
 
 // The packet reader. A stream of packets goes into the first `plane` bytes of dest, which keeps the rest. 20: dest is shorter
 // than the plane. 21: count 128. 22: packet data missing. 23: more than the plane has left. Unless all is well, dest is untouched.
@@ -12,12 +12,9 @@ pub fn unpack(stream: &[u8], dest: &mut [u8], plane: usize) -> PlaneAnswer
     ensures { left_by result dest.new ≡ unpacked stream.now plane dest.old }
 {
     if dest.len() < plane {
-        return PlaneAnswer::NoRoom;
+        return Err(PlaneError::NoRoom);
     }
-    let answer = test(stream, plane);
-    let told = answer.told();
-    if told.number == 0 {
-        write(stream, &mut dest[..plane]);
-    }
-    answer
+    let read = test(stream, plane)?;
+    write(stream, &mut dest[..plane]);
+    Ok(read)
 }

@@ -3,11 +3,12 @@ ghost use Rattle.std.specs.Prelude.{◌≡◌};
 ghost use Rattle.packet.specs.Reading.{left_by, plane_read};
 
 use crate::packets::unpack;
-use packet::PlaneAnswer;
+use packet::{PlaneAnswer, PlaneError, Read};
 
 // The plane reader. The stored channel is the part of the input from `start` for `stored` bytes, read there without a copy; code 0 is raw
 // and code 1 run lengths. 24: no such code. 26: plane over the limit. 27: the stored part is not inside the input. 20: dest is shorter
 // than the plane. 25: a raw length that is not the plane's. 21, 22, 23: as of `unpack`. Unless all is well, dest is untouched.
+// Stays: (a) start and length of the part, not a slice of it: the export `psp_read_plane` has them so from C, and 27 is answered of them.
 pub fn read_plane(
     input: &[u8],
     start: usize,
@@ -19,26 +20,27 @@ pub fn read_plane(
     ensures { left_by result dest.new ≡ plane_read input.now start stored plane code dest.old }
 {
     if 1 < code {
-        return PlaneAnswer::UnknownCode;
+        return Err(PlaneError::UnknownCode);
     }
     if limits::PLANE < plane {
-        return PlaneAnswer::OverLimit;
+        return Err(PlaneError::OverLimit);
     }
     if input.len() < start {
-        return PlaneAnswer::Outside;
+        return Err(PlaneError::Outside);
     }
     if input.len() - start < stored {
-        return PlaneAnswer::Outside;
+        return Err(PlaneError::Outside);
     }
     if dest.len() < plane {
-        return PlaneAnswer::NoRoom;
+        return Err(PlaneError::NoRoom);
     }
+    let channel = &input[start..start + stored];
     if code == 1 {
-        return unpack(&input[start..start + stored], dest, plane);
+        return unpack(channel, dest, plane);
     }
-    if stored == plane {
-        bulk::copy(&input[start..start + stored], &mut dest[..plane]);
-        return PlaneAnswer::Whole { stored, plane };
+    if stored != plane {
+        return Err(PlaneError::RawLength);
     }
-    PlaneAnswer::RawLength
+    dest[..plane].copy_from_slice(channel);
+    Ok(Read { stored, plane })
 }

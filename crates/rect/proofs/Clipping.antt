@@ -1,9 +1,10 @@
 -- Clipping to two rectangles (document 02, request xi). The order goes side by side; the rest follows from the pixels, since where two
 -- rectangles are settled equal pixels are equal corners.
 use mathlib.Core.Path.{◌≡◌, refl, sym, ap, ◌∙◌}
-use mathlib.Core.Bool.{Bool, true, false, ◌&&◌, and_assoc, and_self, true≢false}
+use mathlib.Core.Bool.{Bool, true, false, cond, ◌&&◌, and_assoc, and_self, true≢false}
 use lib.IntN.{ℤ}
 use lib.Signed.{lt_z}
+use Rattle.std.specs.Int.{int_max, int_min}
 use Rattle.laws.specs.Choice.{pick}
 use Rattle.laws.proofs.Choice.{pick_ind}
 use Rattle.laws.proofs.Tests.{both, either, yes_or_no}
@@ -32,6 +33,20 @@ greater_order a b = less_first a b b a sym
 lesser_order : (a b : ℤ) → lesser_of a b ≡ lesser_of b a
 unfolding lesser_of
 lesser_order a b = less_first a b a b (λ e. e)
+
+-- as the library chooses
+chosen : {A : Type 0} (t : Bool) (x y : A) → cond t x y ≡ pick t x y
+unfolding pick
+chosen true x y = refl
+chosen false x y = refl
+
+pub greater_is : (a b : ℤ) → int_max a b ≡ greater_of a b
+unfolding greater_of
+greater_is a b = chosen (lt_z b a) a b ∙ greater_order b a
+
+pub lesser_is : (a b : ℤ) → int_min a b ≡ lesser_of a b
+unfolding lesser_of
+lesser_is a b = chosen (lt_z b a) b a ∙ lesser_order b a
 
 pub shared_order : (a b : Rect) → shared_of a b ≡ shared_of b a
 shared_order a b = λ i.

@@ -10,8 +10,8 @@ use Rattle.rect.specs.Clipping.{Group, shared_by, clipped_to, Itself, InsideBoth
 use Rattle.rect.proofs.Pixels.{shared_pixels}
 use Rattle.rect.proofs.Clipping.{shared_order, shared_grouping, shared_itself, shared_inside, shared_seen}
 use Rattle.rect.proofs.Groups.{shared_any_order}
-use Rattle.rect.specs.contracts.intersection.intersect as of-intersect
-use Rattle.rect.proofs.intersection.intersect.Reads as intersect
+use Rattle.rect.specs.contracts.Rect.intersect as of-intersect
+use Rattle.rect.proofs.Rect.intersect.Reads as intersect
 
 module _ {Gives : Rect → Rect → Rect → Type 0} (is : (a b p : Rect) → Gives a b p → p ≡ shared_of a b) where
   called : {g : Group} {p : Rect} → Calls Gives g p → p ≡ shared_by g

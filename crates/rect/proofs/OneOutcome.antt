@@ -2,20 +2,20 @@
 use Rattle.laws.specs.Outcomes.{OneResult}
 use Rattle.laws.proofs.OneOutcome.{one}
 use Rattle.rect.proofs.Rect.decode.Reads as decode
-use Rattle.rect.proofs.intersection.intersect.Reads as intersect
+use Rattle.rect.proofs.Rect.intersect.Reads as intersect
 use Rattle.rect.proofs.planes.row_bytes.Reads as row-bytes
 use Rattle.rect.proofs.planes.is_form.Reads as is-form
 use Rattle.rect.proofs.planes.Sides.of.Reads as sides
 use Rattle.rect.proofs.planes.Shape.permits.Reads as permits
 use Rattle.rect.proofs.planes.Shape.size.Reads as size
-use Rattle.rect.proofs.rules.proper.Reads as proper
-use Rattle.rect.proofs.rules.empty.Reads as empty
-use Rattle.rect.proofs.rules.inside.Reads as inside
-use Rattle.rect.proofs.rules.within.Reads as within
-use Rattle.rect.proofs.rules.saved.Reads as saved
+use Rattle.rect.proofs.Rect.is_proper.Reads as proper
+use Rattle.rect.proofs.Rect.is_empty.Reads as empty
+use Rattle.rect.proofs.Rect.is_inside.Reads as inside
+use Rattle.rect.proofs.Rect.is_within.Reads as within
+use Rattle.rect.proofs.Rect.is_saved.Reads as saved
 use Rattle.rect.proofs.sides.side.Reads as side
-use Rattle.rect.proofs.sides.width.Reads as width
-use Rattle.rect.proofs.sides.height.Reads as height
+use Rattle.rect.proofs.Rect.width.Reads as width
+use Rattle.rect.proofs.Rect.height.Reads as height
 
 pub decode_one : OneResult decode.Learnt
 decode_one l a y z e f = one

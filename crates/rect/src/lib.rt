@@ -11,14 +11,12 @@ mod sides;
 ghost use Rattle.std.specs.Prelude.{◌≡◌, ◌+◌, ◌≤◌, length};
 ghost use Rattle.rect.specs.Rect.{rect_at};
 
-pub use intersection::intersect;
 pub use planes::{Shape, Sides, Size, is_form};
-pub use rules::{empty, inside, proper, saved, within};
-pub use sides::{height, side, width};
+pub use sides::side;
 
 // RECT of document 000, section 4.2.
 #[repr(C)]
-#[derive(Clone, Copy)]
+#[derive(Clone, Copy, Default)]
 pub struct Rect {
     pub left: i32,
     pub top: i32,
@@ -29,6 +27,7 @@ pub struct Rect {
 impl Rect {
     pub const SIZE: usize = 16;
 
+    #[tactic(auto, unfolding(crate::specs::Rect::rect_at))]
     pub fn decode(file: &[u8], at: usize) -> Rect
         requires { at + Rect.SIZE ≤ length file.now }
         ensures { result ≡ rect_at file.now at }

@@ -4,7 +4,6 @@ ghost use Rattle.rect.specs.Rect.{Sized};
 ghost use Rattle.rect.specs.Rows.{row_of, is_form, sides_of, makes, is_plane, row_for, size_of};
 
 use crate::Rect;
-use crate::sides::{height, width};
 
 // 4 x ceiling(w x bits / 32)
 pub fn row_bytes(w: u32, bits: u32) -> u32
@@ -15,6 +14,7 @@ pub fn row_bytes(w: u32, bits: u32) -> u32
 }
 
 // Whether a row of w pixels may be so many bytes: the padded row or, where the short form is permitted, the width itself.
+#[tactic(auto, using(crate::proofs::Forms::form_is))]
 pub fn is_form(w: u32, bits: u32, short: bool, row: u32) -> bool
     requires { (w < 65536) × (bits ≤ 8) }
     ensures { result ≡ is_form w bits short row }
@@ -30,6 +30,7 @@ pub struct Sides {
 }
 
 // What the planes of a bitmap look like: their sides, the bits of a pixel, and whether a row may go without padding.
+// Stays: (a) no invariant says that the bits are at most 8, since `shape_of` makes shapes of any bits (rect/Rows, and the definitions over it).
 #[derive(Clone, Copy)]
 pub struct Shape {
     pub sides: Sides,
@@ -49,6 +50,7 @@ pub struct Size {
 
 impl Size {
     // No plane.
+    // Stays: (d) a constant and no `Default`: other constants are made of it, and a constant's value calls no function.
     pub const NONE: Size = Size {
         width: 0,
         height: 0,
@@ -59,6 +61,7 @@ impl Size {
 
 impl Sides {
     // No rectangle.
+    // Stays: (d) a constant and no `Default`, as `Size::NONE`.
     pub const NONE: Sides = Sides {
         width: 0,
         height: 0,
@@ -69,8 +72,8 @@ impl Sides {
         ensures { result ≡ sides_of r }
     {
         Sides {
-            width: width(r) as u16,
-            height: height(r) as u16,
+            width: r.width() as u16,
+            height: r.height() as u16,
         }
     }
 }
@@ -86,6 +89,7 @@ impl Shape {
     }
 
     // Whether some form of a row makes a plane of so many bytes.
+    #[tactic(auto, using(crate::proofs::Forms::plane_is))]
     pub fn permits(self, plane: u32) -> bool
         requires { self.bits ≤ 8 }
         ensures { result ≡ is_plane self plane }
@@ -113,6 +117,7 @@ impl Shape {
     }
 
     // The size of a plane of so many bytes.
+    #[tactic(auto, unfolding(crate::specs::Rows::size_of))]
     pub fn size(self, plane: u32) -> Size
         requires { self.bits ≤ 8 }
         ensures { result ≡ size_of self plane }

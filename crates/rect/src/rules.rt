@@ -3,50 +3,51 @@ ghost use Rattle.std.specs.Prelude.{◌≡◌};
 ghost use Rattle.rect.specs.Rect.{is_proper, is_empty, is_inside, is_within, is_saved};
 
 use crate::Rect;
-use crate::sides::{height, width};
 use limits::{LEAST, MOST, SIDE};
 
-// Coordinates in range, and in order on both axes.
-pub fn proper(r: Rect) -> bool
-    ensures { result ≡ is_proper r }
-{
-    (LEAST <= r.left)
-        & (r.left <= r.right)
-        & (r.right <= MOST)
-        & (LEAST <= r.top)
-        & (r.top <= r.bottom)
-        & (r.bottom <= MOST)
-}
-
-// Of corners in order: equal on an axis.
-pub fn empty(r: Rect) -> bool
-    ensures { result ≡ is_empty r }
-{
-    (r.right <= r.left) | (r.bottom <= r.top)
-}
-
-pub fn inside(r: Rect, border: Rect) -> bool
-    ensures { result ≡ is_inside r border }
-{
-    (border.left <= r.left)
-        & (border.top <= r.top)
-        & (r.right <= border.right)
-        & (r.bottom <= border.bottom)
-}
-
-// Proper, with sides within the limit: what a plane is sized by.
-pub fn within(r: Rect) -> bool
-    ensures { result ≡ is_within r }
-{
-    if proper(r) {
-        return (width(r) <= SIDE) & (height(r) <= SIDE);
+impl Rect {
+    // Coordinates in range, and in order on both axes.
+    pub fn is_proper(self) -> bool
+        ensures { result ≡ is_proper self }
+    {
+        (LEAST <= self.left)
+            & (self.left <= self.right)
+            & (self.right <= MOST)
+            & (LEAST <= self.top)
+            & (self.top <= self.bottom)
+            & (self.bottom <= MOST)
     }
-    false
-}
 
-// A saved rectangle: within the limits, and inside its own border unless empty.
-pub fn saved(r: Rect, border: Rect) -> bool
-    ensures { result ≡ is_saved r border }
-{
-    within(r) & (empty(r) | inside(r, border))
+    // Of corners in order: equal on an axis.
+    pub fn is_empty(self) -> bool
+        ensures { result ≡ is_empty self }
+    {
+        (self.right <= self.left) | (self.bottom <= self.top)
+    }
+
+    pub fn is_inside(self, border: Rect) -> bool
+        ensures { result ≡ is_inside self border }
+    {
+        (border.left <= self.left)
+            & (border.top <= self.top)
+            & (self.right <= border.right)
+            & (self.bottom <= border.bottom)
+    }
+
+    // Proper, with sides within the limit: what a plane is sized by.
+    pub fn is_within(self) -> bool
+        ensures { result ≡ is_within self }
+    {
+        if self.is_proper() {
+            return (self.width() <= SIDE) & (self.height() <= SIDE);
+        }
+        false
+    }
+
+    // A saved rectangle: within the limits, and inside its own border unless empty.
+    pub fn is_saved(self, border: Rect) -> bool
+        ensures { result ≡ is_saved self border }
+    {
+        self.is_within() & (self.is_empty() | self.is_inside(border))
+    }
 }

@@ -12,16 +12,18 @@ pub fn side(from: i32, to: i32) -> u32
     (to - from) as u32
 }
 
-pub fn width(r: Rect) -> u32
-    requires { Proper r }
-    ensures { (result ≡ width_of r) × (result < 65536) }
-{
-    side(r.left, r.right)
-}
+impl Rect {
+    pub fn width(self) -> u32
+        requires { Proper self }
+        ensures { (result ≡ width_of self) × (result < 65536) }
+    {
+        side(self.left, self.right)
+    }
 
-pub fn height(r: Rect) -> u32
-    requires { Proper r }
-    ensures { (result ≡ height_of r) × (result < 65536) }
-{
-    side(r.top, r.bottom)
+    pub fn height(self) -> u32
+        requires { Proper self }
+        ensures { (result ≡ height_of self) × (result < 65536) }
+    {
+        side(self.top, self.bottom)
+    }
 }

@@ -7,6 +7,7 @@ use Prim.Native.Nat.{ℕ, ◌+◌, ◌-◌, ◌*◌, ◌≤◌, ◌<◌}
 use native.Mathlib.Omega.{arith}
 use lib.ListN.{length, take, drop}
 use lib.Seq.{take_at}
+use Rattle.std.specs.Prelude.{Ok}
 use Rattle.laws.specs.Lists.{over}
 use Rattle.laws.specs.Outcomes.{Call}
 use Rattle.laws.specs.Results.{Result}
@@ -16,8 +17,6 @@ use Rattle.laws.proofs.Tests.{not_less, not_other, yes_or_no}
 use Rattle.endian.proofs.Turned.{big_small}
 use Rattle.entry.specs.Entry.{size}
 use Rattle.saved.specs.declared.writer.Saved.{Saved}
-use Rattle.saved.specs.declared.writer.WriteAnswer.TheVariants.{Whole as Saves}
-use Rattle.saved.specs.declared.reader.ReadAnswer.TheVariants.{Whole as Restores}
 use Rattle.saved.specs.declared.reader.Restored.{Restored}
 use Rattle.saved.specs.Saved.{entries_in, numbers_in, saved_as, version_of, saved, write_result, writes_as, writes, length_said, version_said, count_said, found, is_other_version, read_result, reads}
 use Rattle.saved.specs.Kept.{Bytes, Numbers, largest, file_in, found_in, Keeps}
@@ -81,22 +80,22 @@ module _ (file room : List ℕ) (good : (reads file room).told.number ≡ 0) whe
 
 reads_back :
     (table room : List ℕ) → Numbers table → entries_in table ≤ largest → entries_in table ≤ entries_in room
-    → reads (saved table) room ≡ read_result (Restores (entries_in table)) (numbers_in table ++ drop (size * entries_in table) room)
+    → reads (saved table) room ≡ read_result (Ok (entries_in table)) (numbers_in table ++ drop (size * entries_in table) room)
 reads_back table room numbers fits space =
     let count = count_said_lem (version_of table) table fits in
     read_whole (saved table) room (is_saved_table table numbers fits) (omega (arith, count))
-    ∙ ap₂ (λ (n : ℕ) (l : List ℕ). read_result (Restores n) (l ++ drop (size * n) room)) count (entries_said (version_of table) table fits numbers)
+    ∙ ap₂ (λ (n : ℕ) (l : List ℕ). read_result (Ok n) (l ++ drop (size * n) room)) count (entries_said (version_of table) table fits numbers)
 
 writes_again :
     (file dest : List ℕ) → Bytes file → SavedTable file → length file ≤ length dest
-    → writes (found file) dest ≡ write_result (Saves (length file)) (file ++ drop (length file) dest)
+    → writes (found file) dest ≡ write_result (Ok (length file)) (file ++ drop (length file) dest)
 writes_again file dest bytes s space =
     let count = entries_count file (count_said file) in
     let fits : entries_in (found file) ≤ largest = omega (arith, count, s.count_is, big_small 4 file 0 bytes) in
     let long : 9 + 56 * entries_in (found file) ≡ length file = omega (arith, count, s.nine, s.length_is, s.count_is) in
     write_whole (version_of (found file)) (found file) dest fits (omega arith)
-    ∙ ap₂ (λ (n : ℕ) (l : List ℕ). write_result (Saves n) (over dest 0 l)) long (saved_again file bytes s)
-    ∙ ap (write_result (Saves (length file))) (over_front dest file (length file) refl)
+    ∙ ap₂ (λ (n : ℕ) (l : List ℕ). write_result (Ok n) (over dest 0 l)) long (saved_again file bytes s)
+    ∙ ap (write_result (Ok (length file))) (over_front dest file (length file) refl)
 
 -- ### Of any two functions that leave what the definitions say
 
@@ -142,7 +141,7 @@ module _ {Writes : List ℕ → List ℕ → Result Saved → Type 0} {Reads : L
     fits = λ table dest w p fits room.
         wrote table dest w p
         ∙ write_whole (version_of table) table dest fits room
-        ∙ ap (write_result (Saves (9 + 56 * entries_in table))) (over_front dest (saved table) (9 + 56 * entries_in table) (saved_length (version_of table) table));
+        ∙ ap (write_result (Ok (9 + 56 * entries_in table))) (over_front dest (saved table) (9 + 56 * entries_in table) (saved_length (version_of table) table));
     short = λ table dest w p fits short. wrote table dest w p ∙ write_no_room (version_of table) table dest fits short;
     over_long = λ table dest w p over. wrote table dest w p ∙ write_over_long (version_of table) table dest over;
   }

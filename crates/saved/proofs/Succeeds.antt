@@ -6,12 +6,13 @@ use Prim.Native.Nat.{ℕ, ◌≤◌}
 use native.Mathlib.Omega.{arith}
 use borrow.Author.Tests.{not-false, le-ltb, eqb-true, eq-eqb}
 use lib.ListN.{length}
+use Rattle.std.specs.Prelude.{Err}
 use Rattle.laws.specs.Choice.{pick}
 use Rattle.laws.specs.Results.{Result}
 use Rattle.laws.proofs.Choice.{pick_ind, pick_ind₂}
 use Rattle.saved.specs.declared.writer.Saved.{Saved}
 use Rattle.saved.specs.declared.reader.Restored.{Restored}
-use Rattle.saved.specs.declared.reader.ReadAnswer.TheVariants as read
+use Rattle.saved.specs.declared.reader.ReadError.TheVariants as read
 use Rattle.saved.specs.Saved.{entries_in, saved_as, version_of, writes_as, writes, version_said, found, is_other_length, is_other_count, read_result, reads}
 use Rattle.saved.specs.Kept.{largest, file_in}
 use Rattle.saved.specs.Earlier.{earlier_reads, Succeeds}
@@ -38,17 +39,17 @@ module _ (file room : List ℕ) where
       pick_ind One _ _ _ (λ _ zero. absurd (omega (arith, zero))) (λ _.
       pick_ind One _ _ _ (λ _ zero. absurd (omega (arith, zero))) (λ same _. eqb-true (version_said file) 1 (not-false _ same)))
 
-  large_read : version_said file ≡ 1 → version_of (found file) ≡ 2 → number (earlier_reads file room) ≡ 0 → reads file room ≡ read_result read.WrongSides room
+  large_read : version_said file ≡ 1 → version_of (found file) ≡ 2 → number (earlier_reads file room) ≡ 0 → reads file room ≡ read_result (Err read.WrongSides) room
   unfolding earlier_reads reads pick
   large_read one large =
-      let Told : Result Restored → Result Restored → Type 0 = λ was is. number was ≡ 0 → is ≡ read_result read.WrongSides room in
+      let Told : Result Restored → Result Restored → Type 0 = λ was is. number was ≡ 0 → is ≡ read_result (Err read.WrongSides) room in
       rw (one, large)
       (pick_ind₂ Told (is_other_length file) _ _ _ _ (λ _ zero. absurd (omega (arith, zero))) (λ _.
       pick_ind₂ Told (is_other_count file) _ _ _ _ (λ _ zero. absurd (omega (arith, zero))) (λ _ _. refl)))
 
 -- ### A file of version 2
 
-two_unknown : (table room : List ℕ) → entries_in table ≤ largest → earlier_reads (saved_as 2 table) room ≡ read_result read.WrongVersion room
+two_unknown : (table room : List ℕ) → entries_in table ≤ largest → earlier_reads (saved_as 2 table) room ≡ read_result (Err read.WrongVersion) room
 unfolding earlier_reads pick
 two_unknown table room fits =
     rw (le-ltb (length (saved_as 2 table)) 9 (omega (arith, saved_length 2 table)), eq-eqb _ _ (length_said_lem 2 table fits), version_said_lem 2 table fits) refl

@@ -1,13 +1,13 @@
 -- Saved tables before request (ix), when each was of version 1 and no side was looked at; and what holds between those and today's. It is said
 -- of any two functions, by what they may leave of what they are given.
-use Rattle.std.specs.Prelude.{ℕ, ◌*◌, ◌≤◌, ◌<◌, not, ◌≡◌, List, eqb}
+use Rattle.std.specs.Prelude.{ℕ, ◌*◌, ◌≤◌, ◌<◌, not, ◌≡◌, List, eqb, Err}
 use Rattle.laws.specs.Choice.{pick}
 use Rattle.laws.specs.Results.{Result}
 use Rattle.rect.specs.declared.planes.Size.{Size}
 use Rattle.entry.specs.Entry.{size, entry_at}
 use Rattle.saved.specs.declared.writer.Saved.{Saved}
 use Rattle.saved.specs.declared.reader.Restored.{Restored}
-use Rattle.saved.specs.declared.reader.ReadAnswer.TheVariants as read
+use Rattle.saved.specs.declared.reader.ReadError.TheVariants as read
 use Rattle.saved.specs.Saved.{entries_in, old_side, writes_as, version_said, found, is_other_length, is_other_count, read_result, restores}
 use Rattle.saved.specs.Kept.{file_in}
 
@@ -18,9 +18,9 @@ earlier_writes = writes_as 1
 
 unfoldable pub earlier_reads : List ℕ → List ℕ → Result Restored
 earlier_reads file table =
-    pick (is_other_length file) (read_result read.WrongLength table)
-    (pick (not (eqb (version_said file) 1)) (read_result read.WrongVersion table)
-    (pick (is_other_count file) (read_result read.WrongCount table)
+    pick (is_other_length file) (read_result (Err read.WrongLength) table)
+    (pick (not (eqb (version_said file) 1)) (read_result (Err read.WrongVersion) table)
+    (pick (is_other_count file) (read_result (Err read.WrongCount) table)
     (restores file table)))
 
 -- ### And as it is

@@ -1,16 +1,17 @@
 -- A table as a file (document 02, requests iv and ix). All its numbers but the version have four bytes, the greatest first.
-use Rattle.std.specs.Prelude.{ℕ, zero, suc, ◌+◌, ◌-◌, ◌*◌, ◌/◌, Bool, false, not, ◌||◌, List, [], ◌∷◌, ◌++◌, eqb, ltb, length, take, drop, get_or}
+use Rattle.std.specs.Prelude.{Result as Answer}
+use Rattle.std.specs.Prelude.{ℕ, zero, suc, ◌+◌, ◌-◌, ◌*◌, ◌/◌, Bool, false, not, ◌||◌, List, [], ◌∷◌, ◌++◌, eqb, ltb, length, take, drop, get_or, Ok, Err}
 use Rattle.laws.specs.Choice.{pick}
 use Rattle.laws.specs.Results.{Result}
 use Rattle.endian.specs.Number.{big_at, big_bytes_of}
 use Rattle.rect.specs.declared.planes.Size.{Size}
 use Rattle.entry.specs.Entry.{size, entry_at}
 use Rattle.saved.specs.declared.writer.Saved.{Saved}
-use Rattle.saved.specs.declared.writer.WriteAnswer.{WriteAnswer}
-use Rattle.saved.specs.declared.writer.WriteAnswer.TheVariants as write
+use Rattle.saved.specs.declared.writer.WriteError.{WriteError}
+use Rattle.saved.specs.declared.writer.WriteError.TheVariants as write
 use Rattle.saved.specs.declared.reader.Restored.{Restored}
-use Rattle.saved.specs.declared.reader.ReadAnswer.{ReadAnswer}
-use Rattle.saved.specs.declared.reader.ReadAnswer.TheVariants as read
+use Rattle.saved.specs.declared.reader.ReadError.{ReadError}
+use Rattle.saved.specs.declared.reader.ReadError.TheVariants as read
 
 -- ### The file of a table
 
@@ -60,20 +61,20 @@ abbrev pub most_in_four : ℕ
 most_in_four = 4294967295
 
 -- what the document tells of an answer
-abbrev pub write_paper : WriteAnswer → Saved
-write_paper (write.Whole n) = record { number = 0; length = n }
-write_paper write.OverLong = record { number = 70; length = 0 }
-write_paper write.NoRoom = record { number = 73; length = 0 }
+abbrev pub write_paper : Answer ℕ WriteError → Saved
+write_paper (Ok n) = record { number = 0; length = n }
+write_paper (Err write.OverLong) = record { number = 70; length = 0 }
+write_paper (Err write.NoRoom) = record { number = 73; length = 0 }
 
-abbrev pub write_result : WriteAnswer → List ℕ → Result Saved
+abbrev pub write_result : Answer ℕ WriteError → List ℕ → Result Saved
 write_result answer dest = record { told = write_paper answer; dest = dest }
 
 -- what writing in a version leaves: the file in front, and the rest of the destination unchanged
 unfoldable pub writes_as : ℕ → List ℕ → List ℕ → Result Saved
 writes_as version table dest =
-    pick (ltb most_in_four (length (following version table))) (write_result write.OverLong dest)
-    (pick (ltb (length dest) (length (saved_as version table))) (write_result write.NoRoom dest)
-    (write_result (write.Whole (length (saved_as version table))) (saved_as version table ++ drop (length (saved_as version table)) dest)))
+    pick (ltb most_in_four (length (following version table))) (write_result (Err write.OverLong) dest)
+    (pick (ltb (length dest) (length (saved_as version table))) (write_result (Err write.NoRoom) dest)
+    (write_result (Ok (length (saved_as version table))) (saved_as version table ++ drop (length (saved_as version table)) dest)))
 
 -- what `write_table` leaves
 abbrev pub writes : List ℕ → List ℕ → Result Saved
@@ -117,28 +118,28 @@ is_other_count file = not (eqb (length_said file) (5 + 56 * count_said file))
 abbrev pub has_other_sides : List ℕ → Bool
 has_other_sides file = not (eqb (version_said file) (version_of (found file)))
 
-abbrev pub read_paper : ReadAnswer → Restored
-read_paper (read.Whole n) = record { number = 0; count = n }
-read_paper read.WrongLength = record { number = 70; count = 0 }
-read_paper read.WrongVersion = record { number = 71; count = 0 }
-read_paper read.WrongCount = record { number = 72; count = 0 }
-read_paper read.WrongSides = record { number = 74; count = 0 }
-read_paper read.NoRoom = record { number = 73; count = 0 }
+abbrev pub read_paper : Answer ℕ ReadError → Restored
+read_paper (Ok n) = record { number = 0; count = n }
+read_paper (Err read.WrongLength) = record { number = 70; count = 0 }
+read_paper (Err read.WrongVersion) = record { number = 71; count = 0 }
+read_paper (Err read.WrongCount) = record { number = 72; count = 0 }
+read_paper (Err read.WrongSides) = record { number = 74; count = 0 }
+read_paper (Err read.NoRoom) = record { number = 73; count = 0 }
 
-abbrev pub read_result : ReadAnswer → List ℕ → Result Restored
+abbrev pub read_result : Answer ℕ ReadError → List ℕ → Result Restored
 read_result answer table = record { told = read_paper answer; dest = table }
 
 -- what is left of a file that passes them: the entries in front, and the rest of the table unchanged
 unfoldable pub restores : List ℕ → List ℕ → Result Restored
 restores file table =
-    pick (ltb (entries_in table) (count_said file)) (read_result read.NoRoom table)
-    (read_result (read.Whole (count_said file)) (found file ++ drop (size * count_said file) table))
+    pick (ltb (entries_in table) (count_said file)) (read_result (Err read.NoRoom) table)
+    (read_result (Ok (count_said file)) (found file ++ drop (size * count_said file) table))
 
 -- what `read_table` leaves
 unfoldable pub reads : List ℕ → List ℕ → Result Restored
 reads file table =
-    pick (is_other_length file) (read_result read.WrongLength table)
-    (pick (is_other_version file) (read_result read.WrongVersion table)
-    (pick (is_other_count file) (read_result read.WrongCount table)
-    (pick (has_other_sides file) (read_result read.WrongSides table)
+    pick (is_other_length file) (read_result (Err read.WrongLength) table)
+    (pick (is_other_version file) (read_result (Err read.WrongVersion) table)
+    (pick (is_other_count file) (read_result (Err read.WrongCount) table)
+    (pick (has_other_sides file) (read_result (Err read.WrongSides) table)
     (restores file table))))

@@ -1,9 +1,8 @@
-// The version of a table (document 02, request ix), by the sides of its entries as they stand in a table, and as they stand in a file.
-ghost use Rattle.std.specs.Prelude.{◌||◌, ◌≡◌, ◌+◌, ◌*◌, ◌≤◌, ltb, length};
+// The version of a table (document 02, request ix), by the sides of its entries, as they stand in a table or in a file.
+ghost use Rattle.std.specs.Prelude.{◌||◌, ◌≡◌, ℕ, ◌/◌, ◌<◌, List, ltb, length, get_or};
 ghost use Rattle.laws.specs.Choice.{pick};
-ghost use Rattle.saved.specs.Saved.{old_side, version_of, entries_of};
+ghost use Rattle.saved.specs.Saved.{old_side, version_of, numbers_at};
 
-use crate::{ENTRY, HEAD};
 use endian::big;
 use entry::Entry;
 
@@ -28,6 +27,7 @@ fn is_large(width: u32, height: u32) -> bool
 }
 
 // The version by whether a side is large.
+#[tactic(auto, unfolding(laws::specs::Choice::pick))]
 fn version(large: bool) -> u8
     ensures { result ≡ pick large 2 1 }
 {
@@ -37,34 +37,54 @@ fn version(large: bool) -> u8
     FIRST
 }
 
-// The version of a table's whole entries.
-pub(crate) fn version_of(table: &[u32]) -> u8
-    ensures { result ≡ version_of table.now }
-{
-    let count = table.len() / Entry::SIZE;
-    let mut large = false;
-    let mut i = 0;
-    while i < count {
-        let at = i * Entry::SIZE;
-        large = large | is_large(table[at + WIDTH], table[at + HEIGHT]);
-        i += 1;
-    }
-    version(large)
+// The numbers of a table, wherever they stand.
+pub(crate) trait Numbers {
+    ghost numbers: { Self → List ℕ };
+
+    fn count(&self) -> usize
+        ensures { result ≡ length (numbers self.now) };
+
+    fn number(&self, i: usize) -> u32
+        requires { i < length (numbers self.now) }
+        ensures { result ≡ get_or (numbers self.now) i 0 };
 }
 
-// The version of so many entries in a file.
-pub(crate) fn version_in(file: &[u8], count: usize) -> u8
-    requires { 9 + 56 * count ≤ length file.now }
-    ensures { result ≡ version_of (entries_of file.now count) }
+impl Numbers for &[u32] {
+    ghost numbers = { λ table. table.now };
+
+    fn count(&self) -> usize {
+        self.len()
+    }
+
+    fn number(&self, i: usize) -> u32 {
+        self[i]
+    }
+}
+
+// Those that stand in a file, four bytes each.
+#[derive(Clone, Copy)]
+pub(crate) struct InBytes<'a>(pub(crate) &'a [u8]);
+
+impl Numbers for InBytes<'_> {
+    ghost numbers = { λ file. numbers_at (length file.0.now / 4) file.0.now 0 };
+
+    fn count(&self) -> usize {
+        self.0.len() / 4
+    }
+
+    fn number(&self, i: usize) -> u32 {
+        big::u32_at(self.0, 4 * i)
+    }
+}
+
+// The version of a table's whole entries.
+pub(crate) fn version_of<N: Numbers>(table: &N) -> u8
+    ensures { result ≡ version_of (N.numbers table.now) }
 {
     let mut large = false;
-    let mut i = 0;
-    while i < count {
-        let at = HEAD + ENTRY * i;
-        let width = big::u32_at(file, at + 4 * WIDTH);
-        let height = big::u32_at(file, at + 4 * HEIGHT);
-        large = large | is_large(width, height);
-        i += 1;
+    for i in 0..table.count() / Entry::SIZE {
+        let at = i * Entry::SIZE;
+        large |= is_large(table.number(at + WIDTH), table.number(at + HEIGHT));
     }
     version(large)
 }

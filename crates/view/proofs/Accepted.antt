@@ -7,6 +7,7 @@ use native.Mathlib.Omega.{arith}
 use borrow.Author.Tests.{eqb-false, ltb-true, ltb-false}
 use lib.Dec.{eqb, ltb}
 use lib.ListN.{length, take}
+use Rattle.std.specs.Prelude.{Ok}
 use Rattle.laws.specs.Lists.{filter}
 use Rattle.laws.proofs.Filter.{filter_alike, filter_at}
 use Rattle.laws.proofs.Tests.{other_not}
@@ -23,8 +24,10 @@ use Rattle.listing.specs.Listing.{listed}
 use Rattle.listing.specs.Right.{image_in, depth_of, ImageRight, PaletteRight, LayerRight, Right}
 use Rattle.listing.proofs.RightEntries.{each_right, accepted_complete}
 use Rattle.chunk.specs.LayerInformation.{layer_size}
-use Rattle.view.specs.declared.sought.Sought.TheVariants.{At}
-use Rattle.view.specs.Asked.{layer_asked, palette_asked, asked, is_there, layer_sought}
+use Rattle.view.specs.declared.not_shown.Lacking.{Lacking}
+use Rattle.view.specs.declared.not_shown.Lacking.TheVariants.{Layer}
+use Rattle.view.specs.Whole.{Whole}
+use Rattle.view.specs.Asked.{Inside, chunk_sought, layer_asked, palette_asked, asked, is_there, layer_sought}
 use Rattle.view.proofs.Asked.{sought_at}
 
 -- ### A question, and the kinds of entries
@@ -77,8 +80,20 @@ module _ (s : List ℕ) (room : ℕ) where
         ap (λ (e : Entry). e.layer) layer_has.is ∙ sym (so_many 4 k l.before) ∙ l.index
 
   -- a layer's chunk that was found lies inside the input
-  pub layer_inside : (k : ℕ) {at : ℕ} → layer_sought s room k ≡ At at → at + layer_size ≤ length s
-  layer_inside k e = let found = sought_at s room 4 45 k e in omega (arith, (layer_has k found.0).inside, found.1)
+  pub layer_inside : (k : ℕ) {at : ℕ} → layer_sought s room k ≡ Ok at → at + layer_size ≤ length s
+  layer_inside k e = let found = sought_at s room 4 Layer k e in omega (arith, (layer_has k found.0).inside, found.1)
+
+  -- and so does the chunk of any block that the listing promises whole
+  pub chunk_inside : (id size : ℕ) (lacking : Lacking) (k : ℕ) → Whole id size → Inside size s (chunk_sought s room id lacking k)
+  chunk_inside id size lacking k whole at is =
+      let found = sought_at s room id lacking k is in
+      let l = found_listed (question id 0 k) found.0 in
+      let h = whole s l.before _ l.right (sym (kind id k (asked (question id 0 k) s room).entry) ∙ l.asks) in
+      omega (arith, h, found.1)
+
+  -- and the name that it begins
+  pub named_inside : (id size : ℕ) (lacking : Lacking) (k : ℕ) → Whole id size → 256 ≤ size → Inside 256 s (chunk_sought s room id lacking k)
+  named_inside id size lacking k whole named at is = omega (arith, chunk_inside id size lacking k whole at is)
 
   -- ### Where the input is accepted
 

@@ -8,10 +8,11 @@ use borrow.Author.Tests.{lt-ltb, eqb-true, eq-eqb}
 use lib.Dec.{eqb}
 use lib.ListN.{length, length-append, take, drop, get_or}
 use lib.Seq.{get_or_at}
+use Rattle.std.specs.Prelude.{Ok}
 use Rattle.laws.specs.Lists.{filter}
 use Rattle.laws.proofs.Filter.{filter_around}
 use Rattle.laws.proofs.Tests.{both}
-use Rattle.answer.specs.declared.Answer.TheVariants.{Accepted}
+use Rattle.answer.specs.Answers.{Accepted}
 use Rattle.answer.proofs.Names.{accepted_yes}
 use Rattle.entry.specs.declared.Entry.{Entry}
 use Rattle.entry.specs.Entry.{nowhere, is_kind}
@@ -22,7 +23,8 @@ use Rattle.listing.specs.Question.{question, is_asked, found_in}
 use Rattle.listing.specs.Right.{is_layer, layer_from}
 use Rattle.listing.proofs.RightEntries.{each_right, each_headed, layers_numbered}
 use Rattle.chunk.specs.LayerInformation.{layer_size}
-use Rattle.view.specs.declared.sought.Sought.TheVariants.{At}
+use Rattle.view.specs.declared.not_shown.Lacking.{Lacking}
+use Rattle.view.specs.declared.not_shown.Lacking.TheVariants.{Layer}
 use Rattle.view.specs.Asked.{asked, is_there, chunk_sought, layer_sought}
 use Rattle.view.specs.Facts.{layer_facts, layer_facts_of}
 use Rattle.view.specs.Name.{name_at, name_of, name_view}
@@ -43,7 +45,7 @@ module _ (s : List ℕ) (room k : ℕ) (d : Entry) (low : k < length (listed s r
 
   -- ### A block of any kind, with so many bytes of chunk
 
-  module _ (id size none : ℕ) (is : is_kind id e ≡ true) (inside : place + (block_header_size + size) ≤ length s) where
+  module _ (id size : ℕ) (lacking : Lacking) (is : is_kind id e ≡ true) (inside : place + (block_header_size + size) ≤ length s) where
     -- its header is good: the walk has judged it so
     header : is_header_of id (block_header_at s place) ≡ true
     header =
@@ -54,8 +56,8 @@ module _ (s : List ℕ) (room k : ℕ) (d : Entry) (low : k < length (listed s r
         λ i. (h.marked i && named i) && lengths i
 
     -- where the entry says, the block stands
-    pub entry_stands : chunk_at s place id size none ≡ At (place + block_header_size)
-    entry_stands = stands s place id size none (by_header s place id size inside ∙ header)
+    pub entry_stands : chunk_at s place id size lacking ≡ Ok (place + block_header_size)
+    entry_stands = stands s place id size lacking (by_header s place id size inside ∙ header)
 
     -- of an accepted input it is the chunk that is sought for the entry's rank among its kind
     module _ (rank : ℕ) (before : length (filter (is_kind id) (take k es)) ≡ rank) where
@@ -84,15 +86,15 @@ module _ (s : List ℕ) (room k : ℕ) (d : Entry) (low : k < length (listed s r
           let all : length (filter (is_asked q) es) ≡ length front + length (e ∷ behind) = ap length around ∙ length-append front (e ∷ behind) in
           lt-ltb rank _ (omega (arith, ahead))
 
-      pub entry_sought : (listed s room).answer ≡ Accepted → chunk_sought s room id none rank ≡ chunk_at s place id size none
+      pub entry_sought : (listed s room).answer ≡ Accepted → chunk_sought s room id lacking rank ≡ chunk_at s place id size lacking
       entry_sought good =
-          sought_there s room id none rank (accepted_yes good) there ∙ ap (λ (x : Entry). At (x.block.place + block_header_size)) found ∙ sym entry_stands
+          sought_there s room id lacking rank (accepted_yes good) there ∙ ap (λ (x : Entry). Ok (x.block.place + block_header_size)) found ∙ sym entry_stands
 
   -- ### A layer
 
   module _ (is : is_layer e ≡ true) where
-    layer_stands : layer_here s place ≡ At (place + block_header_size)
-    layer_stands = entry_stands 4 layer_size 45 is ((each_right s room k d low).kind 4 is).inside
+    layer_stands : layer_here s place ≡ Ok (place + block_header_size)
+    layer_stands = entry_stands 4 layer_size Layer is ((each_right s room k d low).kind 4 is).inside
 
     pub layer_at_listed : layer_facts_at s place ≡ record { number = 0; layer = layer_from s place }
     unfolding layer_facts_at
@@ -105,7 +107,7 @@ module _ (s : List ℕ) (room k : ℕ) (d : Entry) (low : k < length (listed s r
     module _ (good : (listed s room).answer ≡ Accepted) where
       layer_sought_lem : layer_sought s room e.layer ≡ layer_here s place
       layer_sought_lem =
-          entry_sought 4 layer_size 45 is ((each_right s room k d low).kind 4 is).inside e.layer (sym (layers_numbered s room k d low is)) good
+          entry_sought 4 layer_size Layer is ((each_right s room k d low).kind 4 is).inside e.layer (sym (layers_numbered s room k d low is)) good
 
       pub layer_at_accepted : layer_facts s room e.layer ≡ layer_facts_at s place
       unfolding layer_facts layer_facts_at

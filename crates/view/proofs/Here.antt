@@ -7,10 +7,12 @@ use native.Mathlib.Omega.{arith}
 use borrow.Author.Tests.{le-leb, lt-leb, leb-true}
 use lib.Dec.{leb}
 use lib.ListN.{length}
+use Rattle.std.specs.Prelude.{Ok, Err}
 use Rattle.laws.proofs.Choice.{pick_yes, pick_no, pick_ind}
 use Rattle.laws.proofs.Tests.{both}
 use Rattle.headers.specs.BlockHeader.{block_header_size, block_header_at}
-use Rattle.view.specs.declared.sought.Sought.TheVariants.{Refused, At}
+use Rattle.view.specs.declared.not_shown.Lacking.{Lacking}
+use Rattle.view.specs.declared.not_shown.NotShown.TheVariants.{Lacks}
 use Rattle.view.specs.Asked.{Inside}
 use Rattle.view.specs.At.{is_header_of, is_block_at, chunk_at}
 
@@ -27,18 +29,18 @@ module _ (s : List ℕ) (place id size : ℕ) where
   unfolding is_block_at
   block_whole h = leb-true _ _ (both (leb (place + (block_header_size + size)) (length s)) _ h).0
 
-  module _ (none : ℕ) where
-    pub stands : is_block_at id size s place ≡ true → chunk_at s place id size none ≡ At (place + block_header_size)
+  module _ (lacking : Lacking) where
+    pub stands : is_block_at id size s place ≡ true → chunk_at s place id size lacking ≡ Ok (place + block_header_size)
     unfolding chunk_at
     stands = pick_yes _ _ _
 
-    pub stands_not : is_block_at id size s place ≡ false → chunk_at s place id size none ≡ Refused none
+    pub stands_not : is_block_at id size s place ≡ false → chunk_at s place id size lacking ≡ Err (Lacks lacking)
     unfolding chunk_at
     stands_not = pick_no _ _ _
 
     -- a chunk that was found lies inside the input
-    pub here_inside : Inside size s (chunk_at s place id size none)
+    pub here_inside : Inside size s (chunk_at s place id size lacking)
     unfolding chunk_at
     here_inside =
         pick_ind (Inside size s) _ _ _ (λ there at e. let same : place + block_header_size ≡ at = cc in omega (arith, block_whole there))
-        (λ _ at e. let z : ◌≡◌ {A = ℕ} 0 1 = cc in absurd (omega arith))
+        (λ _ at e. cc)

@@ -4,6 +4,7 @@ pub mod Asked
 pub mod Accepted
 pub mod Place
 pub mod Zero
+pub mod Zeros
 pub mod Here
 pub mod Views
 pub mod Rules

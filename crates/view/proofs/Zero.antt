@@ -1,16 +1,19 @@
--- The code looks for a name's end byte by byte, and the definition by the list's tail: both count the same.
-use mathlib.Core.Path.{◌≡◌, sym, ap, ◌∙◌}
+-- The code asks the library for a name's end, and the definition goes by the list's tail: both count the same.
+use mathlib.Core.Path.{◌≡◌, refl, sym, ap, ◌∙◌}
+use mathlib.Core.Bool.{Bool, true, false}
 use mathlib.Core.List.{List, [], ◌∷◌}
-use Prim.Native.Nat.{ℕ, suc, ◌+◌, ◌-◌, ◌≤◌, ◌<◌}
+use Prim.Native.Nat.{ℕ, suc, ◌+◌, ◌-◌, ◌≤◌}
 use native.Mathlib.Omega.{arith}
-use native.Mathlib.Nat.{zero-add}
-use native.Mathlib.Numerals.{add-one}
-use borrow.Author.Tests.{eq-eqb, ne_eqb}
-use lib.Dec.{eqb}
-use lib.ListN.{length, take, drop, get_or, drop_of_length-le}
-use lib.Seq.{drop-cons, take-take}
+use borrow.Author.Tests.{ltb-false}
+use lib.Dec.{eqb, ltb}
+use lib.ListN.{length, take, drop}
+use lib.Seq.{take-take}
+use Rattle.std.specs.Prelude.{Some, None, cond, unwrap_or, position}
+use Rattle.std.specs.List.{position_or_len}
+use Rattle.std.proofs.lemmas.List.Recursion.{is_position_or_len}
+use Rattle.laws.specs.Choice.{pick}
 use Rattle.laws.specs.Lists.{part}
-use Rattle.laws.proofs.Choice.{pick_yes, pick_no, pick_ind}
+use Rattle.laws.proofs.Choice.{pick_ind}
 use Rattle.laws.proofs.Part.{lent}
 use Rattle.chunk.specs.LayerInformation.{layer_of, layer_at}
 use Rattle.view.specs.Name.{before_zero}
@@ -21,34 +24,25 @@ zero_most [] = omega arith
 zero_most (b ∷ bs) =
     pick_ind (λ (n : ℕ). n ≤ length (b ∷ bs)) (eqb b 0) _ _ (λ _. omega arith) (λ _. omega (arith, zero_most bs))
 
--- n bytes are passed, and none of them is zero
-pub record Passed (l : List ℕ) (n : ℕ) : Type 0 where
-  pub inside : n ≤ length l
-  pub counts : before_zero l ≡ n + before_zero (drop n l)
+one_more : (b : Bool) (n : ℕ) → pick b 0 (suc n) ≡ cond b 0 (1 + n)
+unfolding pick
+one_more true n = refl
+one_more false n = omega arith
 
-module _ (l : List ℕ) where
-  pub passed_none : Passed l 0
-  passed_none = record { inside = omega arith; counts = sym (zero-add (before_zero l)) }
+pub zero_is : (l : List ℕ) → before_zero l ≡ position_or_len (λ b. eqb b 0) l
+unfolding before_zero
+zero_is = is_position_or_len before_zero (λ b. eqb b 0) refl (λ b bs. one_more (eqb b 0) (before_zero bs))
 
-  module _ (n : ℕ) (p : Passed l n) where
-    pub zero_here : n < length l → get_or l n 0 ≡ 0 → n ≡ before_zero l
-    unfolding before_zero
-    zero_here h z =
-        let none : before_zero (drop n l) ≡ 0 = ap before_zero (drop-cons l n 0 h) ∙ pick_yes _ _ _ (eq-eqb (get_or l n 0) 0 z) in
-        omega (arith, p.counts)
-
-    pub passed_more : n < length l → (get_or l n 0 ≡ 0 → ⊥) → Passed l (n + 1)
-    unfolding before_zero
-    passed_more h other =
-        let one : before_zero (drop n l) ≡ suc (before_zero (drop (n + 1) l)) =
-        ap before_zero (drop-cons l n 0 h) ∙ pick_no _ _ _ (ne_eqb (get_or l n 0) 0 other) ∙ ap (λ (m : ℕ). suc (before_zero (drop m l))) (sym (add-one n)) in
-        record { inside = omega arith; counts = omega (arith, p.counts) }
-
-    pub passed_all : length l ≤ n → n ≡ before_zero l
-    unfolding before_zero
-    passed_all h =
-        let none : before_zero (drop n l) ≡ 0 = ap before_zero (drop_of_length-le l {i = n} h) in
-        omega (arith, p.counts)
+-- so the library's first place of a zero, or else the end, is the length of the name
+pub zero_first : (l : List ℕ) → unwrap_or (position (λ b. eqb b 0) l) (length l) ≡ before_zero l
+zero_first l = by _ _ (omega (arith, zero_is l, zero_most l)) ∙ sym (zero_is l)
+  where
+    by : (n m : ℕ) → n ≤ m → unwrap_or (cond (ltb n m) (Some n) None) m ≡ n
+    by n m low = at (ltb n m) refl
+      where
+        at : (b : Bool) → ltb n m ≡ b → unwrap_or (cond b (Some n) None) m ≡ n
+        at true e = refl
+        at false e = omega (arith, ltb-false n m e)
 
 -- what is counted of `&s[at..at + 256]`
 pub name_length : (s : List ℕ) (at : ℕ) → before_zero (take (at + 256 - at) (drop at s)) ≡ before_zero (part s at 256)

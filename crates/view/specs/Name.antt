@@ -1,11 +1,11 @@
 -- The bytes of a layer's name, which are shown in their place (document 01, "The table").
-use Rattle.std.specs.Prelude.{List, [], ◌∷◌, ℕ, suc, eqb}
+use Rattle.std.specs.Prelude.{List, [], ◌∷◌, ℕ, Result, suc, eqb}
 use Rattle.laws.specs.Choice.{pick}
 use Rattle.laws.specs.Lists.{part}
 use Rattle.view.specs.declared.part.Part.{Part}
-use Rattle.view.specs.declared.sought.Sought.{Sought}
-use Rattle.view.specs.Asked.{shown_of, layer_sought}
-use Rattle.view.specs.Shown.{of_input, refusal, Slice, ShownAs}
+use Rattle.view.specs.declared.not_shown.NotShown.{NotShown}
+use Rattle.view.specs.Asked.{Sought, read_of, layer_sought}
+use Rattle.view.specs.Shown.{of_input, part_told, Slice, ShownAs}
 
 -- how many bytes stand before the first zero, or how many there are
 unfoldable pub before_zero : List ℕ → ℕ
@@ -17,11 +17,14 @@ unfoldable pub name_at : List ℕ → ℕ → Part
 name_at s at = of_input at (before_zero (part s at 256))
 
 -- of a chunk that begins so, however it was sought
+abbrev pub name_seen : List ℕ → Sought → Result Part NotShown
+name_seen s = read_of (name_at s)
+
 abbrev pub name_of : List ℕ → Sought → Part
-name_of s = shown_of refusal (name_at s)
+name_of s sought = part_told (name_seen s sought)
 
 unfoldable pub name_view : List ℕ → ℕ → ℕ → Part
-name_view s room k = shown_of refusal (name_at s) (layer_sought s room k)
+name_view s room k = name_of s (layer_sought s room k)
 
-abbrev pub NameShown : Slice → ℕ → ℕ → ℕ → Slice → Type 0
-NameShown input room k = ShownAs input (name_view input.now room k)
+abbrev pub NameShown : Slice → ℕ → ℕ → Result Slice NotShown → Type 0
+NameShown input room k = ShownAs input (name_seen input.now (layer_sought input.now room k))

@@ -1,29 +1,35 @@
 -- The palette that is shown, and of which of two lent slices it is a part (document 01, "Canvas and palette").
-use Rattle.std.specs.Prelude.{◌≡◌, List, ℕ, eqb, length}
+use Rattle.std.specs.Prelude.{List, Result, Ok, Err, ℕ, eqb, length}
 use Rattle.laws.specs.Choice.{pick}
 use Rattle.entry.specs.declared.Content.{Content}
 use Rattle.headers.specs.Places.{image_chunk_place}
 use Rattle.attributes.specs.ImageAttributes.{image_at}
+use Rattle.view.specs.declared.not_shown.Lacking.TheVariants.{Palette, Ramp}
+use Rattle.view.specs.declared.not_shown.NotShown.{NotShown}
+use Rattle.view.specs.declared.not_shown.NotShown.TheVariants.{Lacks}
 use Rattle.view.specs.declared.part.Part.{Part}
 use Rattle.view.specs.Asked.{palette_asked, asked, is_there, of_accepted}
-use Rattle.view.specs.Shown.{of_input, of_ramp, refusal, Slice, PartOf}
+use Rattle.view.specs.Shown.{of_input, of_ramp, part_told, Slice, ShownIn}
 
 -- where the entries of the listed palette are
 abbrev pub palette_entries : List ℕ → ℕ → Content
 palette_entries s room = (asked palette_asked s room).entry.content
 
--- by a ramp's length: 43 depth 24; the listed palette's entries; the ramp; 44. What is accepted below depth 24 without a palette is grey (`accepted_grey`)
+-- by a ramp's length: none at depth 24; the listed palette's entries; the ramp; none. What is accepted below depth 24 without a palette is grey
+-- (`accepted_grey`)
+unfoldable pub palette_seen : List ℕ → ℕ → ℕ → Result Part NotShown
+palette_seen s room ramp =
+    of_accepted s room
+    (pick (eqb (image_at s image_chunk_place).depth 24) (Err (Lacks Palette))
+    (pick (is_there palette_asked s room) (Ok (of_input (palette_entries s room).start (palette_entries s room).stored))
+    (pick (eqb ramp 1024) (Ok of_ramp) (Err (Lacks Ramp)))))
+
 unfoldable pub palette_view : List ℕ → ℕ → ℕ → Part
-palette_view s room ramp =
-    of_accepted refusal s room
-    (pick (eqb (image_at s image_chunk_place).depth 24) (refusal 43)
-    (pick (is_there palette_asked s room) (of_input (palette_entries s room).start (palette_entries s room).stored)
-    (pick (eqb ramp 1024) of_ramp (refusal 44))))
+palette_view s room ramp = part_told (palette_seen s room ramp)
 
--- r is the part p of one of the two
-abbrev pub Shows : Part → Slice → Slice → Slice → Type 0
-Shows p input ramp r = PartOf (pick (eqb p.which 1) ramp input) p.start p.length r
+-- the slice of the two that a part is of
+abbrev pub lent_to : Slice → Slice → Part → Slice
+lent_to input ramp p = pick (eqb p.which 1) ramp input
 
-pub record PaletteShown (input : Slice) (room : ℕ) (ramp : Slice) (number : ℕ) (r : Slice) : Type 0 where
-  pub told : number ≡ (palette_view input.now room (length ramp.now)).number
-  pub is : Shows (palette_view input.now room (length ramp.now)) input ramp r
+abbrev pub PaletteShown : Slice → ℕ → Slice → Result Slice NotShown → Type 0
+PaletteShown input room ramp = ShownIn (lent_to input ramp) (palette_seen input.now room (length ramp.now))

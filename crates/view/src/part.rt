@@ -1,6 +1,8 @@
 // C gets no slice back, so what is shown goes to it in numbers: an answer, which of the lent slices, where the part starts, its length.
 ghost use Rattle.std.specs.Prelude.{◌≡◌};
-ghost use Rattle.view.specs.Shown.{of_input, of_ramp, refusal};
+ghost use Rattle.view.specs.Shown.{of_input, of_ramp, part_told};
+
+use crate::not_shown::NotShown;
 
 // The bytes of a grey ramp: 256 entries of four.
 pub const RAMP: usize = 1024;
@@ -38,16 +40,21 @@ impl Part {
             length: RAMP,
         }
     }
+}
 
-    // Nothing, at the input's start.
-    pub fn refusal(number: u32) -> Part
-        ensures { result ≡ refusal number }
-    {
-        Part {
-            number,
-            which: 0,
-            start: 0,
-            length: 0,
+// Of a refusal nothing is shown, at the input's start.
+impl From<Result<Part, NotShown>> for Part {
+    ghost from_gives = { λ seen part. part ≡ part_told seen };
+
+    fn from(seen: Result<Part, NotShown>) -> Part {
+        match seen {
+            Ok(part) => part,
+            Err(not_shown) => Part {
+                number: not_shown.into(),
+                which: 0,
+                start: 0,
+                length: 0,
+            },
         }
     }
 }

@@ -6,9 +6,11 @@ use Prim.Native.Nat.{ℕ, zero, suc, ◌-◌, ◌≤◌, ◌<◌}
 use native.Mathlib.Omega.{arith}
 use lib.ListN.{length}
 use lib.Seq.{append_snoc}
+use Rattle.std.specs.Prelude.{Err}
 use Rattle.laws.specs.Along.{Along, along_end}
 use Rattle.laws.proofs.Along.{along_more}
-use Rattle.answer.specs.declared.Answer.TheVariants.{Accepted, Refused}
+use Rattle.answer.specs.Answers.{Accepted}
+use Rattle.answer.specs.declared.Stopped.TheVariants.{Rule}
 use Rattle.answer.proofs.Names.{not_accepted}
 use Rattle.entry.specs.declared.Entry.{Entry}
 use Rattle.walk.specs.Walk.{Step, End, Leaf, Nest, Look, Listing, Rest, Go, ended, done, ◌◂◌, follow, walk, run, enough}
@@ -118,7 +120,7 @@ module _ {S : Type 0} (main len : ℕ) (look : Look S) (moves : MovesOn main len
   unfolding follow
   follow_led go es x rest ih c after is (ends m) = after es x.at x.state c is
   follow_led go es x rest ih c after is (stops {r} {p} m) =
-      last_look es x (ended (Refused r) p x.state) refl refl c (rw is by_rule) (λ z. absurd (not_accepted refl z))
+      last_look es x (ended (Err (Rule r)) p x.state) refl refl c (rw is by_rule) (λ z. absurd (not_accepted refl z))
   follow_led go es x rest ih c after is (leaf {e} {next} {q} m) =
       one_more es e _ (ih (es ++ e ∷ []) (stand next x.end x.around q) rest m.on (omega (arith, m.on, m.present)) (course.leaf c is) after)
   follow_led go es x rest ih c after is (nest {e} {inside} {after = b} {q} m) =

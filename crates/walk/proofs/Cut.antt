@@ -6,8 +6,9 @@ use Prim.Native.Nat.{ℕ, zero, suc, ◌≤◌}
 use native.Mathlib.Omega.{arith}
 use lib.ListN.{length, take, drop, length-take, length-drop, take-append-drop, drop_of_length-le}
 use lib.Seq.{take_all, take-nil, drop-nil, take_at, drop_at}
-use Rattle.answer.specs.declared.Answer.{Answer}
-use Rattle.answer.specs.declared.Answer.TheVariants.{Accepted, TableFull}
+use Rattle.std.specs.Prelude.{Err}
+use Rattle.answer.specs.Answers.{Answer, Accepted}
+use Rattle.answer.specs.declared.Stopped.TheVariants.{TableFull}
 use Rattle.answer.proofs.Names.{not_accepted}
 use Rattle.entry.specs.declared.Entry.{Entry}
 use Rattle.walk.specs.Walk.{Listing, ended, ◌◂◌}
@@ -43,14 +44,14 @@ closed_over a p a' p' zero (e ∷ es) ys h = refl
 closed_over a p a' p' (suc room) (e ∷ es) ys h =
     closed_first a p e _ (drop room (es ++ ys)) ∙ ap (first e) (closed_over a p a' p' room es ys h) ∙ sym (closed_first a' p' e _ (drop room es))
 
-closed_all : (a : Answer) (p : ℕ) (fit more : List Entry) → ((closed a p fit more).answer ≡ TableFull → ⊥) → more ≡ []
+closed_all : (a : Answer) (p : ℕ) (fit more : List Entry) → ((closed a p fit more).answer ≡ Err TableFull → ⊥) → more ≡ []
 unfolding closed
 closed_all a p fit [] h = refl
 closed_all a p fit (e ∷ more) h = absurd (h refl)
 
 closed_case :
     (P : Listed → Type 0) (a : Answer) (p : ℕ) (fit more : List Entry)
-    → (more ≡ [] → P (plain a p fit)) → ((e : Entry) (rest : List Entry) → more ≡ e ∷ rest → P (plain TableFull e.block.place fit))
+    → (more ≡ [] → P (plain a p fit)) → ((e : Entry) (rest : List Entry) → more ≡ e ∷ rest → P (plain (Err TableFull) e.block.place fit))
     → P (closed a p fit more)
 unfolding closed
 closed_case P a p fit [] all full = all refl
@@ -67,7 +68,7 @@ module _ {S : Type 0} where
   unfolding cut
   cut_first room e w = closed_first _ _ e _ (drop room w.entries)
 
-  pub cut_full : (e : Entry) (w : Listing S) → cut 0 (e ◂ w) ≡ plain TableFull e.block.place []
+  pub cut_full : (e : Entry) (w : Listing S) → cut 0 (e ◂ w) ≡ plain (Err TableFull) e.block.place []
   unfolding cut closed
   cut_full e w = refl
 
@@ -85,7 +86,7 @@ module _ {S : Type 0} where
   cut_fits room w h = ap₂ (closed w.answer w.place) (take_all room w.entries h) (drop_of_length-le w.entries h)
 
   -- an answer that is not "table full" had room
-  pub cut_had_room : (room : ℕ) (w : Listing S) → ((cut room w).answer ≡ TableFull → ⊥) → length w.entries ≤ room
+  pub cut_had_room : (room : ℕ) (w : Listing S) → ((cut room w).answer ≡ Err TableFull → ⊥) → length w.entries ≤ room
   unfolding cut
   cut_had_room room w h =
       omega (arith, sym (length-drop room w.entries) ∙ ap length (closed_all _ _ _ (drop room w.entries) h))
@@ -97,7 +98,7 @@ module _ {S : Type 0} where
   -- a listing that is cut is the whole listing, or full
   pub cut_case :
       (P : Listed → Type 0) (room : ℕ) (w : Listing S)
-      → (length w.entries ≤ room → P (plain w.answer w.place w.entries)) → ((r : Listed) → r.answer ≡ TableFull → Full w.entries room r → P r) → P (cut room w)
+      → (length w.entries ≤ room → P (plain w.answer w.place w.entries)) → ((r : Listed) → r.answer ≡ Err TableFull → Full w.entries room r → P r) → P (cut room w)
   unfolding cut
   cut_case P room w all full =
       let es = w.entries in
@@ -114,20 +115,20 @@ module _ {S : Type 0} where
       }))
 
   pub cut_table_full :
-      (room : ℕ) (w : Listing S) → (w.answer ≡ TableFull → ⊥) → (cut room w).answer ≡ TableFull → Full w.entries room (cut room w)
+      (room : ℕ) (w : Listing S) → (w.answer ≡ Err TableFull → ⊥) → (cut room w).answer ≡ Err TableFull → Full w.entries room (cut room w)
   cut_table_full room w own =
-      cut_case (λ (r : Listed). r.answer ≡ TableFull → Full w.entries room r) room w (λ _ z. absurd (own z)) (λ r _ f _. f)
+      cut_case (λ (r : Listed). r.answer ≡ Err TableFull → Full w.entries room r) room w (λ _ z. absurd (own z)) (λ r _ f _. f)
 
   -- ### With a larger room
 
-  pub cut_larger : (room more : ℕ) (w : Listing S) → room ≤ more → ((cut room w).answer ≡ TableFull → ⊥) → cut room w ≡ cut more w
+  pub cut_larger : (room more : ℕ) (w : Listing S) → room ≤ more → ((cut room w).answer ≡ Err TableFull → ⊥) → cut room w ≡ cut more w
   cut_larger room more w le h =
       let fits = cut_had_room room w h in cut_fits room w fits ∙ sym (cut_fits more w (omega arith))
 
   -- ### With more behind it
 
   -- where one entry more has no room, it is full there
-  pub cut_seam : (room : ℕ) (es : List Entry) (e : Entry) (w : Listing S) → length es ≡ room → cut room (es ⧺ (e ◂ w)) ≡ plain TableFull e.block.place es
+  pub cut_seam : (room : ℕ) (es : List Entry) (e : Entry) (w : Listing S) → length es ≡ room → cut room (es ⧺ (e ◂ w)) ≡ plain (Err TableFull) e.block.place es
   unfolding cut closed
   cut_seam room es e w count =
       ap₂ (closed w.answer w.place) (take_at es (e ∷ w.entries) room count) (drop_at es (e ∷ w.entries) room count)

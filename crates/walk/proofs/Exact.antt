@@ -6,10 +6,11 @@ use Prim.Native.Nat.{ℕ, ◌+◌, ◌-◌, ◌≤◌, ◌<◌}
 use native.Mathlib.Omega.{arith}
 use lib.ListN.{length, take, get_or, length-append, length-take}
 use lib.Seq.{get_or-append-add, get_or-take}
+use Rattle.std.specs.Prelude.{Err}
 use Rattle.laws.specs.Along.{Along}
 use Rattle.laws.proofs.Along.{along_here}
-use Rattle.answer.specs.declared.Answer.{Answer}
-use Rattle.answer.specs.declared.Answer.TheVariants.{Accepted, TableFull}
+use Rattle.answer.specs.Answers.{Answer, Accepted}
+use Rattle.answer.specs.declared.Stopped.TheVariants.{TableFull}
 use Rattle.entry.specs.declared.Entry.{Entry}
 use Rattle.walk.specs.Walk.{Step, Look, Listing, ended, ◌◂◌, follow, run}
 use Rattle.walk.specs.Room.{Listed, cut}
@@ -92,7 +93,7 @@ module _ {S : Type 0} (main len : ℕ) (look : Look S) (moves : MovesOn main len
       let f = finds_from (fits main len look moves top low st at end order c) finds is in
       sym (ap (cut room) (course_run main len look moves top low st at end order c ∙ ap (λ w. es ⧺ w) f.1)
       ∙ cut_seam room es e f.0 count
-      ∙ ap (λ (p : ℕ). plain TableFull p es) (place_of c is finds))
+      ∙ ap (λ (p : ℕ). plain (Err TableFull) p es) (place_of c is finds))
 
   pub exact_only : (room : ℕ) (r : Listed) → Exactly look top begin room r → r ≡ cut room whole
   exact_only room r x = only room x.course refl x.answered

@@ -3,8 +3,9 @@
 use mathlib.Core.Path.{◌≡◌, ap, subst, ◌∙◌}
 use Prim.Native.Nat.{ℕ, ◌-◌, ◌≤◌}
 use native.Mathlib.Omega.{arith}
+use Rattle.std.specs.Prelude.{Err}
 use Rattle.answer.specs.declared.Refusal.{Refusal}
-use Rattle.answer.specs.declared.Answer.TheVariants.{Refused}
+use Rattle.answer.specs.declared.Stopped.TheVariants.{Rule}
 use Rattle.entry.specs.declared.Entry.{Entry}
 use Rattle.walk.specs.Walk.{Step, End, Stop, Leaf, Nest, Look, Listing, ended, done, ◌◂◌, follow, walk, run}
 use Rattle.walk.specs.Owed.{Owns, Opens, Moves, leaf, nest, MovesOn}
@@ -43,7 +44,7 @@ module _
   unfolding follow
   run_end e = by_step End e
 
-  pub run_stop : (r : Refusal) (p : ℕ) → look st at end levels ≡ Stop r p → run look len st at end levels ≡ ended (Refused r) p st
+  pub run_stop : (r : Refusal) (p : ℕ) → look st at end levels ≡ Stop r p → run look len st at end levels ≡ ended (Err (Rule r)) p st
   unfolding follow
   run_stop r p e = by_step (Stop r p) e
 

@@ -6,9 +6,9 @@ use mathlib.Core.List.{List, [], ◌∷◌}
 use Prim.Native.Nat.{ℕ, suc, ◌+◌, ◌-◌, ◌≤◌, ◌<◌}
 use native.Mathlib.Omega.{arith}
 use lib.ListN.{length}
-use Rattle.answer.specs.Answers.{is_accepted}
-use Rattle.answer.specs.declared.Answer.{Answer}
-use Rattle.answer.specs.declared.Answer.TheVariants.{Accepted, TableFull}
+use Rattle.std.specs.Prelude.{Err}
+use Rattle.answer.specs.Answers.{Answer, Accepted, is_accepted}
+use Rattle.answer.specs.declared.Stopped.TheVariants.{TableFull}
 use Rattle.answer.specs.declared.Outcome.{Outcome}
 use Rattle.answer.proofs.Names.{accepted_is, accepted_yes, not_accepted}
 use Rattle.entry.specs.declared.Entry.{Entry}
@@ -52,11 +52,11 @@ module _ {S K : Type 0} (put : K → ℕ → Entry → K) (room : ℕ) where
 
   pub full :
       (w : Listing S) (from : ℕ) (t : K) (e : Entry) (more : Listing S) (at : ℕ) (q : S)
-      → w ≡ e ◂ more → e.block.place ≡ at → from ≡ room → Walked put w room from t (record { answer = TableFull; place = at; count = from }) q t
+      → w ≡ e ◂ more → e.block.place ≡ at → from ≡ room → Walked put w room from t (record { answer = Err TableFull; place = at; count = from }) q t
   full w from t e more at q h here no_room =
       let none : room - from ≡ 0 = omega arith in
-      nothing w from t TableFull at q
-      (ap (cut (room - from)) h ∙ ap (λ (n : ℕ). cut n (e ◂ more)) none ∙ cut_full e more ∙ ap (λ (p : ℕ). plain TableFull p []) here)
+      nothing w from t (Err TableFull) at q
+      (ap (cut (room - from)) h ∙ ap (λ (n : ℕ). cut n (e ◂ more)) none ∙ cut_full e more ∙ ap (λ (p : ℕ). plain (Err TableFull) p []) here)
       (λ z. absurd (not_accepted refl z))
 
   -- ### Entries, and what follows them

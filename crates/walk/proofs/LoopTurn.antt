@@ -3,8 +3,10 @@
 use mathlib.Core.Path.{◌≡◌}
 use Prim.Native.Nat.{ℕ, ◌+◌, ◌-◌, ◌≤◌}
 use native.Mathlib.Omega.{arith}
+use Rattle.std.specs.Prelude.{Err}
 use Rattle.answer.specs.declared.Refusal.{Refusal}
-use Rattle.answer.specs.declared.Answer.TheVariants.{Accepted, Refused, TableFull}
+use Rattle.answer.specs.Answers.{Accepted}
+use Rattle.answer.specs.declared.Stopped.TheVariants.{Rule, TableFull}
 use Rattle.answer.specs.declared.Outcome.{Outcome}
 use Rattle.entry.specs.declared.Entry.{Entry}
 use Rattle.walk.specs.Walk.{End, Stop, Leaf, Nest, Look, Listing, run}
@@ -24,13 +26,13 @@ module _ {S K : Type 0} (put : K → ℕ → Entry → K) (len : ℕ) (look : Lo
 
   pub record OnLeaf (e : Entry) (next : ℕ) (q : S) : Type 0 where
     pub owns : Owns len at end e next
-    pub full : from ≡ room → Here (record { answer = TableFull; place = at; count = from }) st t
+    pub full : from ≡ room → Here (record { answer = Err TableFull; place = at; count = from }) st t
     pub on : (from ≡ room → ⊥) → (t' : K) → t' ≡ put t from e
         → Continues put (run look len st at end levels) room from t (run look len q next end levels) (from + 1) t'
 
   pub record OnNest (e : Entry) (inside : ℕ) (q : S) (after : ℕ) : Type 0 where
     pub opens : Opens len at end levels e inside after
-    pub full : from ≡ room → Here (record { answer = TableFull; place = at; count = from }) st t
+    pub full : from ≡ room → Here (record { answer = Err TableFull; place = at; count = from }) st t
     pub halts :
         (from ≡ room → ⊥) → (t' : K) → t' ≡ put t from e
         → (o : Outcome) (x : S) (mid : K) → Walked put (run look len q inside after (levels - 1)) room (from + 1) t' o x mid
@@ -42,7 +44,7 @@ module _ {S K : Type 0} (put : K → ℕ → Entry → K) (len : ℕ) (look : Lo
 
   pub record Turn : Type 0 where
     pub ends : look st at end levels ≡ End → Here (record { answer = Accepted; place = at; count = from }) st t
-    pub stop : {r : Refusal} {p : ℕ} → look st at end levels ≡ Stop r p → Here (record { answer = Refused r; place = p; count = from }) st t
+    pub stop : {r : Refusal} {p : ℕ} → look st at end levels ≡ Stop r p → Here (record { answer = Err (Rule r); place = p; count = from }) st t
     pub leaf : {e : Entry} {next : ℕ} {q : S} → look st at end levels ≡ Leaf e next q → OnLeaf e next q
     pub nest : {e : Entry} {inside : ℕ} {q : S} {after : ℕ} → look st at end levels ≡ Nest e inside q after → OnNest e inside q after
 
@@ -74,7 +76,7 @@ module _ {S K : Type 0} (put : K → ℕ → Entry → K) (len : ℕ) (look : Lo
     pub turn : Turn
     turn = record {
       ends = λ h. stopped put room _ from t Accepted at st (run_end main len look moves st at end levels order low h);
-      stop = λ {r} {p} h. stopped put room _ from t (Refused r) p st (run_stop main len look moves st at end levels order low r p h);
+      stop = λ {r} {p} h. stopped put room _ from t (Err (Rule r)) p st (run_stop main len look moves st at end levels order low r p h);
       leaf = λ {e} {next} {q} h. on_leaf e next q h;
       nest = λ {e} {inside} {q} {after} h. on_nest e inside q after h;
     }

@@ -6,11 +6,12 @@ use Prim.Native.Nat.{ℕ, zero, suc, ◌+◌, ◌-◌, ◌≤◌, ◌<◌}
 use native.Mathlib.Omega.{arith}
 use lib.ListN.{length, drop, length-append}
 use lib.Seq.{drop-length}
+use Rattle.std.specs.Prelude.{Err}
 use Rattle.laws.specs.Front.{Front, front, same}
 use Rattle.laws.proofs.Front.{front_refl, front_take}
 use Rattle.answer.specs.declared.Refusal.TheVariants.{EndsTooSoon}
-use Rattle.answer.specs.declared.Answer.{Answer}
-use Rattle.answer.specs.declared.Answer.TheVariants.{Accepted, Refused}
+use Rattle.answer.specs.Answers.{Answer, Accepted}
+use Rattle.answer.specs.declared.Stopped.TheVariants.{Rule}
 use Rattle.entry.specs.declared.Entry.{Entry}
 use Rattle.walk.specs.Walk.{Step, End, Stop, Leaf, Nest, Look, Listing, Rest, Go, ended, done, ◌◂◌, follow, walk, run, enough}
 use Rattle.walk.specs.Owed.{Moves, ends, stops, leaf, nest, MovesOn, Unsure, soon, last, Keeps, alike, unsure, KeepsOn, Rules}
@@ -35,7 +36,7 @@ pub data Late (len : ℕ) : List Entry → Type 0 where
 -- of a beginning of len bytes, and of the whole; the entries that only the whole has are late, if the rules are prompt
 pub record Later {S : Type 0} (prompt : Type 0) (len : ℕ) (w w' : Listing S) : Type 0 where
   pub entries : Front w.entries w'.entries
-  pub settled : (w.answer ≡ Accepted → ⊥) → (w.answer ≡ Refused EndsTooSoon → ⊥) → w ≡ w'
+  pub settled : (w.answer ≡ Accepted → ⊥) → (w.answer ≡ Err (Rule EndsTooSoon) → ⊥) → w ≡ w'
   pub late : prompt → Late len (drop (length w.entries) w'.entries)
 
 module _ {S : Type 0} (prompt : Type 0) (main len len' : ℕ) (nested : 0 < main) where
@@ -122,8 +123,8 @@ pub ended_stands : {S : Type 0} (a : Answer) (p : ℕ) (st : S) (room more : ℕ
 ended_stands a p st room more =
     rw (cut_ended room a p st, cut_ended more a p st) (record { entries = front; settled = λ _ _ _. refl })
 
-pub soon_stands : {S : Type 0} (p : ℕ) (st : S) (room : ℕ) (b : Listed) → Stands (cut room (ended (Refused EndsTooSoon) p st)) b
-soon_stands p st room b = rw (cut_ended room (Refused EndsTooSoon) p st) (record { entries = front; settled = λ _ z _. absurd (z refl) })
+pub soon_stands : {S : Type 0} (p : ℕ) (st : S) (room : ℕ) (b : Listed) → Stands (cut room (ended (Err (Rule EndsTooSoon)) p st)) b
+soon_stands p st room b = rw (cut_ended room (Err (Rule EndsTooSoon)) p st) (record { entries = front; settled = λ _ z _. absurd (z refl) })
 
 -- ### The listing
 

@@ -5,10 +5,11 @@ use mathlib.Core.List.{List, [], ◌∷◌, ◌++◌}
 use Prim.Native.Nat.{ℕ, zero, suc, ◌+◌, ◌≤◌, ◌<◌}
 use native.Mathlib.Omega.{arith}
 use lib.ListN.{length, drop, get_or}
+use Rattle.std.specs.Prelude.{Err}
 use Rattle.laws.specs.All.{All, empty, both}
 use Rattle.laws.proofs.All.{all_at}
-use Rattle.answer.specs.declared.Answer.{Answer}
-use Rattle.answer.specs.declared.Answer.TheVariants.{Accepted, TableFull}
+use Rattle.answer.specs.Answers.{Answer, Accepted}
+use Rattle.answer.specs.declared.Stopped.TheVariants.{TableFull}
 use Rattle.answer.proofs.Names.{not_accepted}
 use Rattle.entry.specs.declared.Entry.{Entry}
 use Rattle.walk.specs.Walk.{Step, Look, run}
@@ -66,7 +67,7 @@ full_tiles {a} {c} {r} t f =
 -- a look never says that the table is full, and its place is not before the one looked at
 says_place :
     {S : Type 0} {len main at end levels p : ℕ} {a : Answer} {k : Step S}
-    → Says at a p k → Moves len main at end levels k → (at ≤ p) × (a ≡ TableFull → ⊥)
+    → Says at a p k → Moves len main at end levels k → (at ≤ p) × (a ≡ Err TableFull → ⊥)
 says_place at_end m = (omega arith, λ z. not_accepted refl (sym z))
 says_place by_rule (stops m) = (m, λ z. let never : ◌≡◌ {A = ℕ} 0 1 = cc in omega arith)
 
@@ -89,7 +90,7 @@ module _ {S : Type 0} (main len : ℕ) (look : Look S) (moves : MovesOn main len
     led = run_led main len look moves levels low st at end order
 
     -- the look that had the walk stop
-    last_look : let w = run look len st at end levels in (led.last.at ≤ w.place) × (w.answer ≡ TableFull → ⊥)
+    last_look : let w = run look len st at end levels in (led.last.at ≤ w.place) × (w.answer ≡ Err TableFull → ⊥)
     last_look = says_place led.says (moved main len look moves levels low st at end order (fits main len look moves levels low st at end order led.course))
 
     pub run_found : let w = run look len st at end levels in Found at (plain w.answer w.place w.entries)
@@ -104,7 +105,7 @@ module _ {S : Type 0} (main len : ℕ) (look : Look S) (moves : MovesOn main len
     pub cut_full_tiles :
         (room : ℕ)
         → let w = run look len st at end levels in
-        (cut room w).answer ≡ TableFull → Full w.entries room (cut room w) × Tiles at (cut room w).entries (cut room w).place
+        (cut room w).answer ≡ Err TableFull → Full w.entries room (cut room w) × Tiles at (cut room w).entries (cut room w).place
     cut_full_tiles room h =
         let f = cut_table_full room (run look len st at end levels) last_look.1 h in (f, full_tiles run_found.tiles f)
 

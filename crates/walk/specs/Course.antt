@@ -1,9 +1,9 @@
 -- The course of a walk, look by look: where it stands, what has been listed by then, and what the look there has it answer. There is no
 -- fuel here and no rest to be walked later; what is listed is what its course comes to, and only that (`run_led`, `course-only`).
-use Rattle.std.specs.Prelude.{◌≡◌, List, [], ◌∷◌, ◌++◌, ℕ, ◌-◌, ◌≤◌, length}
+use Rattle.std.specs.Prelude.{◌≡◌, List, [], ◌∷◌, ◌++◌, ℕ, ◌-◌, ◌≤◌, length, Err}
 use Rattle.answer.specs.declared.Refusal.{Refusal}
-use Rattle.answer.specs.declared.Answer.{Answer}
-use Rattle.answer.specs.declared.Answer.TheVariants.{Accepted, Refused, TableFull}
+use Rattle.answer.specs.Answers.{Answer, Accepted}
+use Rattle.answer.specs.declared.Stopped.TheVariants.{Rule, TableFull}
 use Rattle.entry.specs.declared.Entry.{Entry}
 use Rattle.walk.specs.Walk.{Step, End, Stop, Leaf, Nest, Look}
 use Rattle.walk.specs.Room.{Listed}
@@ -44,7 +44,7 @@ pub data Course {S : Type 0} (look : Look S) (top : ℕ) (begin : Stand S) : Lis
 -- a look at a place has the walk answer so: the end there, or a refusal with its place
 pub data Says {S : Type 0} (at : ℕ) : Answer → ℕ → Step S → Type 0 where
   at_end : Says at Accepted at End
-  by_rule : {r : Refusal} {p : ℕ} → Says at (Refused r) p (Stop r p)
+  by_rule : {r : Refusal} {p : ℕ} → Says at (Err (Rule r)) p (Stop r p)
 
 -- a look finds an entry
 pub data Finds {S : Type 0} (e : Entry) : Step S → Type 0 where
@@ -55,7 +55,7 @@ pub data Finds {S : Type 0} (e : Entry) : Step S → Type 0 where
 -- look finds one entry more than there is room for
 pub data Answered {S : Type 0} (room : ℕ) (es : List Entry) (x : Stand S) (k : Step S) : Answer → ℕ → Type 0 where
   said : {a : Answer} {p : ℕ} → Says x.at a p k → (a ≡ Accepted → x.around ≡ []) → length es ≤ room → Answered room es x k a p
-  full : (e : Entry) → Finds e k → length es ≡ room → Answered room es x k TableFull x.at
+  full : (e : Entry) → Finds e k → length es ≡ room → Answered room es x k (Err TableFull) x.at
 
 -- a listing is exactly what is found: its entries are those of a course, side by side up to where it stands, and the look there gives the answer
 pub record Exactly {S : Type 0} (look : Look S) (top : ℕ) (begin : Stand S) (room : ℕ) (r : Listed) : Type 0 where

@@ -1,8 +1,9 @@
 -- The claims of a listing that follow from what the rules owe.
-use Rattle.std.specs.Prelude.{◌≡◌, List, [], ◌∷◌, ◌++◌, ℕ, suc, ◌+◌, ◌≤◌, ◌<◌, length}
+use Rattle.std.specs.Prelude.{◌≡◌, List, [], ◌∷◌, ◌++◌, ℕ, suc, ◌+◌, ◌≤◌, ◌<◌, length, Err}
 use Rattle.laws.specs.Front.{Front}
 use Rattle.answer.specs.declared.Refusal.TheVariants.{EndsTooSoon}
-use Rattle.answer.specs.declared.Answer.TheVariants.{Accepted, Refused, TableFull}
+use Rattle.answer.specs.Answers.{Accepted}
+use Rattle.answer.specs.declared.Stopped.TheVariants.{Rule, TableFull}
 use Rattle.entry.specs.declared.Entry.{Entry}
 use Rattle.walk.specs.Room.{Listed}
 
@@ -49,7 +50,7 @@ pub record Full (all : List Entry) (room : ℕ) (r : Listed) : Type 0 where
 -- the answer to a beginning of the input with some room, and to the whole of it with at least that room
 pub record Stands (a b : Listed) : Type 0 where
   pub entries : Front a.entries b.entries
-  pub settled : (a.answer ≡ Accepted → ⊥) → (a.answer ≡ Refused EndsTooSoon → ⊥) → (a.answer ≡ TableFull → ⊥) → a ≡ b
+  pub settled : (a.answer ≡ Accepted → ⊥) → (a.answer ≡ Err (Rule EndsTooSoon) → ⊥) → (a.answer ≡ Err TableFull → ⊥) → a ≡ b
 
 -- ### Other bytes where no step reads
 

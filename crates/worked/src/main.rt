@@ -2,27 +2,25 @@
 // has the right one. A line is what was asked, the answer's number, and the whole canvas, which held EE before.
 #![tactic(auto)]
 
-use printing::{Held, text};
+use printing::{Held, bytes};
 use rect::Rect;
 use std::io;
 use std::io::Write;
 
 fn place(
     out: &mut impl Write,
-    asked: &[u8],
+    asked: &str,
     width: u32,
     height: u32,
     r: Rect,
     plane: &[u8],
     row: u32,
 ) -> io::Result<()> {
-    let mut canvas = [238u8; 6];
-    let a = canvas::place(width, height, &mut canvas, r, plane, row);
-    text(out, asked)?;
-    printing::number(out, a.number() as u64)?;
-    text(out, b" |")?;
-    printing::bytes(out, &canvas)?;
-    text(out, b"\n")
+    let mut canvas = [238; 6];
+    let answer = canvas::place(width, height, &mut canvas, r, plane, row);
+    write!(out, "{asked} {} |", canvas::number(answer))?;
+    bytes(out, &canvas)?;
+    writeln!(out)
 }
 
 fn main(rt: HostRuntime) -> io::Result<()> {
@@ -35,7 +33,7 @@ fn main(rt: HostRuntime) -> io::Result<()> {
     };
     place(
         &mut out,
-        b"3 by 2, 10 11 00 00 at (-1,1)-(1,2):",
+        "3 by 2, 10 11 00 00 at (-1,1)-(1,2):",
         3,
         2,
         r,

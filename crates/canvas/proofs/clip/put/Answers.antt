@@ -1,34 +1,34 @@
 use mathlib.Core.Path.{sym, ◌∙◌}
-use Rattle.canvas.proofs.Clipped.{Clipping, none_shared, canvas_spans, plane_spans, shared_proper, rows_room, rows_place}
+use Rattle.canvas.proofs.Clipped.{clipping_of, none_shared, canvas_spans, plane_spans, shared_proper, rows_room, rows_place}
 use Rattle.canvas.proofs.clip.put.Goals as goal
 
-pub returns-then-empty : goal.returns-then-empty
-returns-then-empty c = none_shared ((let it : (let a = c.args in Clipping a.width a.height a.canvas.now a.r a.plane.now a.row c.frame-whole.result c.intersect-shared.result) = record { fit = c.requires; whole_is = c.frame-whole.ensures; s_is = c.intersect-shared.ensures } in it)) (sym c.empty.ensures ∙ c.if-empty.true)
+pub returns-then-is_empty : goal.returns-then-is_empty
+returns-then-is_empty c =
+    none_shared (clipping_of c.requires c.frame-whole.ensures c.intersect-shared.ensures) (sym c.is_empty.ensures ∙ c.if-is_empty.true)
 
-pub first_byte-at-requires : goal.first_byte-at-requires
-first_byte-at-requires c = canvas_spans ((let it : (let a = c.args in Clipping a.width a.height a.canvas.now a.r a.plane.now a.row c.frame-whole.result c.intersect-shared.result) = record { fit = c.requires; whole_is = c.frame-whole.ensures; s_is = c.intersect-shared.ensures } in it)) ((sym c.empty.ensures ∙ c.if-empty.false))
+pub rows_in-on-requires : goal.rows_in-on-requires
+rows_in-on-requires c =
+    canvas_spans (clipping_of c.requires c.frame-whole.ensures c.intersect-shared.ensures) (sym c.is_empty.ensures ∙ c.if-is_empty.false)
 
-pub first_byte-from-requires : goal.first_byte-from-requires
-first_byte-from-requires c = let t = c in plane_spans ((let it : (let a = c.args in Clipping a.width a.height a.canvas.now a.r a.plane.now a.row c.frame-whole.result c.intersect-shared.result) = record { fit = c.requires; whole_is = c.frame-whole.ensures; s_is = c.intersect-shared.ensures } in it)) ((sym c.empty.ensures ∙ c.if-empty.false))
+pub rows_in-of-requires : goal.rows_in-of-requires
+rows_in-of-requires c =
+    plane_spans (clipping_of c.requires c.frame-whole.ensures c.intersect-shared.ensures) (sym c.is_empty.ensures ∙ c.if-is_empty.false)
 
 pub width-w-requires : goal.width-w-requires
-width-w-requires c = let t = c in shared_proper ((let it : (let a = c.args in Clipping a.width a.height a.canvas.now a.r a.plane.now a.row c.frame-whole.result c.intersect-shared.result) = record { fit = c.requires; whole_is = c.frame-whole.ensures; s_is = c.intersect-shared.ensures } in it)) ((sym c.empty.ensures ∙ c.if-empty.false))
+width-w-requires c =
+    shared_proper (clipping_of c.requires c.frame-whole.ensures c.intersect-shared.ensures) (sym c.is_empty.ensures ∙ c.if-is_empty.false)
 
 pub height-h-requires : goal.height-h-requires
-height-h-requires c = let t = c in shared_proper ((let it : (let a = c.args in Clipping a.width a.height a.canvas.now a.r a.plane.now a.row c.frame-whole.result c.intersect-shared.result) = record { fit = c.requires; whole_is = c.frame-whole.ensures; s_is = c.intersect-shared.ensures } in it)) ((sym c.empty.ensures ∙ c.if-empty.false))
+height-h-requires c =
+    shared_proper (clipping_of c.requires c.frame-whole.ensures c.intersect-shared.ensures) (sym c.is_empty.ensures ∙ c.if-is_empty.false)
 
 pub put_rows-requires : goal.put_rows-requires
 put_rows-requires c =
-    let h = c in
-    let from = h in
-    let t = from in
-    rows_room ((let it : (let a = c.args in Clipping a.width a.height a.canvas.now a.r a.plane.now a.row c.frame-whole.result c.intersect-shared.result) = record { fit = c.requires; whole_is = c.frame-whole.ensures; s_is = c.intersect-shared.ensures } in it)) ((sym c.empty.ensures ∙ c.if-empty.false)) _ _ _ _ from.first_byte-at.ensures from.first_byte-from.ensures h.width-w.ensures.0 h.height-h.ensures.0
+    rows_room (clipping_of c.requires c.frame-whole.ensures c.intersect-shared.ensures) (sym c.is_empty.ensures ∙ c.if-is_empty.false)
+    _ _ _ _ c.rows_in-on.ensures c.rows_in-of.ensures c.width-w.ensures.0 c.height-h.ensures.0
 
 pub returns : goal.returns
 returns c =
-    let rows = c in
-    let h = rows in
-    let from = h in
-    let t = from in
-    rows.put_rows.ensures
-    ∙ rows_place ((let it : (let a = c.args in Clipping a.width a.height a.canvas.now a.r a.plane.now a.row c.frame-whole.result c.intersect-shared.result) = record { fit = c.requires; whole_is = c.frame-whole.ensures; s_is = c.intersect-shared.ensures } in it)) ((sym c.empty.ensures ∙ c.if-empty.false)) _ _ _ _ from.first_byte-at.ensures from.first_byte-from.ensures h.width-w.ensures.0 h.height-h.ensures.0
+    c.put_rows.ensures
+    ∙ rows_place (clipping_of c.requires c.frame-whole.ensures c.intersect-shared.ensures) (sym c.is_empty.ensures ∙ c.if-is_empty.false)
+    _ _ _ _ c.rows_in-on.ensures c.rows_in-of.ensures c.width-w.ensures.0 c.height-h.ensures.0

@@ -1,53 +1,35 @@
--- The loop's invariant: the first i rows are on the canvas, and it is as long as it was. The measure is the rows that are left.
-use mathlib.Core.Path.{◌≡◌, refl, sym, ap, ◌∙◌}
+-- One row more in each iteration.
+use mathlib.Core.Path.{refl, sym, ap, ◌∙◌}
 use mathlib.Core.List.{List}
-use Prim.Native.Nat.{ℕ, ◌+◌, ◌*◌}
+use Prim.Native.Nat.{ℕ, ◌+◌, ◌≤◌}
 use native.Mathlib.Omega.{arith}
 use native.Mathlib.Numerals.{add-one}
+use lib.ListN.{length}
 use Rattle.laws.specs.Lists.{over, part}
+use Rattle.laws.proofs.Part.{part_length, copied_whole}
+use Rattle.laws.proofs.Over.{over_length}
 use Rattle.canvas.specs.Blocks.{rows_of}
 use Rattle.canvas.proofs.rows.put_rows.Goals as goal
 
 pub loop-i-init : goal.loop-i-init
 unfolding rows_of
-loop-i-init c = (omega arith, (refl, refl))
+loop-i-init c = (refl, refl)
 
 pub loop-i-preserved : goal.loop-i-preserved
 unfolding rows_of
 loop-i-preserved c =
-    let turn = c in
-    let a = turn.args in
-    let i = turn.loop-i.i in
-    let line = part a.plane.now (a.from + i * a.row) a.w in (
-      omega arith,
-      (
-        c.put_row.ensures
-            ∙ ap (λ (l : List ℕ). over l (a.at + i * a.across) line) turn.loop-i.invariant.1.0
-            ∙ ap (rows_of a.plane.now a.row a.from a.w a.canvas.now a.across a.at) (sym (add-one i)),
-        c.put_row.auto.canvas ∙ turn.loop-i.invariant.1.1,
-      ),
-    )
-
-pub returns : goal.returns
-returns c =
     let a = c.args in
-    let done : c.loop-i.i ≡ a.h = omega arith in
-    c.loop-i.invariant.1.0 ∙ ap (rows_of a.plane.now a.row a.from a.w a.canvas.now a.across a.at) done
-
-pub overflow_mul-i : goal.overflow_mul-i
-overflow_mul-i c = omega (arith, (c.requires.there c.loop-i.i c.loop-i-test.true))
-
-pub overflow_add-at : goal.overflow_add-at
-overflow_add-at c = omega (arith, (c.requires.there c.loop-i.i c.loop-i-test.true))
-
-pub overflow_mul-i-in-loop-i : goal.overflow_mul-i-in-loop-i
-overflow_mul-i-in-loop-i c = omega (arith, (c.requires.here c.loop-i.i c.loop-i-test.true))
-
-pub overflow_add-from : goal.overflow_add-from
-overflow_add-from c = omega (arith, (c.requires.here c.loop-i.i c.loop-i-test.true))
-
-pub put_row-requires : goal.put_row-requires
-put_row-requires c = omega (arith, (c.requires.there c.loop-i.i c.loop-i-test.true), (c.requires.here c.loop-i.i c.loop-i-test.true))
-
-pub shape_of-canvas : goal.shape_of-canvas
-shape_of-canvas c = c.loop-i.invariant.1.1
+    let i = c.loop-i.i in
+    let on = c.start-to.ensures in
+    let of = c.start-from.ensures in
+    let there : c.start-to.result + a.w ≤ length c.loop-i.canvas = omega (arith, c.requires.there i c.loop-i-test.true) in
+    let here : c.start-from.result + a.w ≤ length a.plane.now = omega (arith, c.requires.here i c.loop-i-test.true) in
+    let copied = copied_whole c.loop-i.canvas a.plane.now c.copy_from_slice.new.self c.start-to.result c.start-from.result a.w there here c.copy_from_slice.ensures.after in
+    let long = part_length a.plane.now c.start-from.result a.w here in
+    let row : ℕ → ℕ → List ℕ → List ℕ = λ to from l. over l to (part a.plane.now from a.w) in
+    let rows = rows_of a.plane.now a.of.apart a.of.first a.w a.canvas.now a.on.apart a.on.first in (
+      copied ∙ (λ j. row (on j) (of j) (c.loop-i.invariant.0 j)) ∙ ap rows (sym (add-one i)),
+      ap length copied
+          ∙ over_length c.loop-i.canvas c.start-to.result (part a.plane.now c.start-from.result a.w) (omega arith)
+          ∙ c.loop-i.invariant.1,
+    )

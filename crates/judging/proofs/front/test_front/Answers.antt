@@ -2,44 +2,20 @@
 -- bytes of the stream that are left.
 use mathlib.Core.Path.{◌≡◌, ◌∙◌}
 use native.Mathlib.Omega.{arith}
-use Rattle.judging.proofs.Judged.{judged_first, judged_literals, judged_run}
+use Rattle.judging.proofs.Judged.{judged_past, judged_literals, judged_run}
 use Rattle.judging.proofs.front.test_front.Goals as goal
-
-pub loop-at-init : goal.loop-at-init
-loop-at-init c = judged_first _ _
-
-pub returns-then-full-done : goal.returns-then-full-done
-returns-then-full-done c =
-    let j = c.loop-at.invariant in
-    (j.within, j.room, j.same)
 
 pub loop-at-preserved-then-count-gt128 : goal.loop-at-preserved-then-count-gt128
 loop-at-preserved-then-count-gt128 c =
-    let read = c.before in
-    judged_run read.loop-at.invariant read.wide-count.result read.wide-count.ensures.0 (omega arith) (omega arith) (omega arith) (omega arith)
+    (omega arith, judged_run c.loop-at.invariant.1 c.from-count.result c.from-count.ensures (omega arith) (omega arith) (omega arith) (omega arith))
 
 pub loop-at-preserved-then-count-lt127 : goal.loop-at-preserved-then-count-lt127
 loop-at-preserved-then-count-lt127 c =
-    let read = c.before.before in
-    judged_literals read.loop-at.invariant read.wide-count.result read.wide-count.ensures.0 (omega arith) (omega arith) (omega arith) (omega arith)
-
-pub returns-then-count-eq128 : goal.returns-then-count-eq128
-returns-then-count-eq128 c =
-    let j = c.loop-at.invariant in
-    (j.within, j.room, j.same)
+    (omega arith, judged_literals c.loop-at.invariant.1 c.from-count.result c.from-count.ensures (omega arith) (omega arith) (omega arith) (omega arith))
 
 pub loop-at-preserved : goal.loop-at-preserved
 loop-at-preserved c =
-    let read = c.before.before.before.before in
-    let full : 127 ≡ read.wide-count.result = omega arith in
-    let first = judged_literals read.loop-at.invariant 127 (full ∙ read.wide-count.ensures.0) (omega arith) (omega arith) (omega arith) (omega arith) in
+    let full : 127 ≡ c.from-count.result = omega arith in
+    let first = judged_literals c.loop-at.invariant.1 127 (full ∙ c.from-count.ensures) (omega arith) (omega arith) (omega arith) (omega arith) in
     let past = c.past_full-past.ensures in
-    record { within = past.1; room = past.2; same = first.same ∙ past.3 }
-
-pub returns : goal.returns
-returns c =
-    let j = c.loop-at.invariant in
-    (j.within, j.room, j.same)
-
-pub loop-at-smaller : goal.loop-at-smaller
-loop-at-smaller c = omega (arith, c.past_full-past.ensures.0, c.past_full-past.ensures.1)
+    (omega (arith, past.2, c.moved.ensures.2), judged_past c.moved.result c.past_full-past.result first c.moved.ensures past)

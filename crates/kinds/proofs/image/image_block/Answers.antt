@@ -1,31 +1,30 @@
-use mathlib.Core.Path.{sym}
-use Prim.Native.Nat.{◌+◌}
-use native.Mathlib.Omega.{arith}
 use borrow.Author.Tests.{eq-eqb, ne_eqb}
 use Rattle.laws.specs.Choice.{pick}
-use Rattle.headers.specs.BlockHeader.{block_header_size}
-use Rattle.attributes.specs.ImageAttributes.{image_size}
-use Rattle.walk.proofs.Unit.{unit_soon, unit_there}
-use Rattle.kinds.specs.Blocks.{permitted, image_block}
+use Rattle.kinds.specs.Blocks.{image_judged, image_block}
+use Rattle.kinds.proofs.Judging.{handed_on}
 use Rattle.kinds.proofs.image.image_block.Goals as goal
 
-pub returns-then-s-end : goal.returns-then-s-end
+pub returns-in_err-c : goal.returns-in_err-c
 unfolding image_block
-returns-then-s-end c = sym (unit_soon _ _ _ _ (omega arith))
+returns-in_err-c c =
+    let a = c.args in
+    handed_on _ c.from_residual.ensures.1 (c.in_err-c.ensures (image_judged a.st a.here.at a.here.level))
 
-pub returns-then-c-eq2 : goal.returns-then-c-eq2
-unfolding image_block permitted pick
-returns-then-c-eq2 c =
-    rw (unit_there c.args.s.now (c.args.at + block_header_size) image_size _ (omega arith), ← c.decode-c.ensures, ← c.judge.ensures, c.in-None.is, eq-eqb _ _ c.if-c-eq2.true)
+pub returns-in_err-permitted : goal.returns-in_err-permitted
+unfolding image_block
+returns-in_err-permitted c =
+    let a = c.args in
+    handed_on _ c.from_residual-in_err-permitted.ensures.1
+    (rw (← c.in_ok-c.ensures (image_judged a.st a.here.at a.here.level), ← c.judge.ensures) (c.in_err-permitted.ensures.judged _))
 
-pub returns-in-At : goal.returns-in-At
-unfolding image_block permitted
-returns-in-At c =
-    rw (unit_there c.args.s.now (c.args.at + block_header_size) image_size _ (omega arith), ← c.decode-c.ensures, ← c.judge.ensures, c.in-At.is)
-    c.wrong_field.ensures
+pub returns-then-c-eq-LZ77 : goal.returns-then-c-eq-LZ77
+unfolding image_block pick
+returns-then-c-eq-LZ77 c =
+    let a = c.args in
+    rw (← c.in_ok-c.ensures (image_judged a.st a.here.at a.here.level), ← c.judge.ensures, ← c.in_ok-permitted.ensures.judged _, eq-eqb _ _ c.if-c-eq-LZ77.true, c.chunk_place.ensures)
 
-pub returns-else-c-eq2 : goal.returns-else-c-eq2
-unfolding image_block permitted pick
-returns-else-c-eq2 c =
-    rw (unit_there c.args.s.now (c.args.at + block_header_size) image_size _ (omega arith), ← c.decode-c.ensures, ← c.judge.ensures, c.in-None.is, ne_eqb _ _ c.if-c-eq2.false)
-    (cc)
+pub returns : goal.returns
+unfolding image_block pick
+returns c =
+    let a = c.args in
+    rw (← c.in_ok-c.ensures (image_judged a.st a.here.at a.here.level), ← c.judge.ensures, ← c.in_ok-permitted.ensures.judged _, ne_eqb _ _ c.if-c-eq-LZ77.false, c.ranked_entry.ensures, c.with_image.ensures)

@@ -6,7 +6,7 @@ use Rattle.laying.proofs.Laying.{Laying}
 use Rattle.laying.proofs.rest.write_rest.Given as goal
 
 abbrev pub invariant-loop-at : goal.invariant-loop-at
-invariant-loop-at l = Laying l.stream (length l.initial.dest) l.at l.done l.dest
+invariant-loop-at l = Laying l.from.stream.now l.from.plane l.at l.done l.dest
 
 abbrev pub decreases-loop-at : goal.decreases-loop-at
-decreases-loop-at l = length l.stream - l.at
+decreases-loop-at l = length l.from.stream.now - l.at

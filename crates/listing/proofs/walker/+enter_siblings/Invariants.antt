@@ -29,10 +29,10 @@ pub record Going (q : Question) (s : List ℕ) (end levels room : ℕ) (t₀ : L
   pub on :
       Continues (put q) (run (step_at s) (length s) st₀ at₀ end levels) room from₀ (kept t₀ x₀) (run (step_at s) (length s) st at end levels) from (kept t x)
 
-abbrev pub invariant-siblings-loop-number : goal.invariant-siblings-loop-number
-invariant-siblings-loop-number l =
+abbrev pub invariant-siblings-loop-p : goal.invariant-siblings-loop-p
+invariant-siblings-loop-p l =
     Going l.question l.s l.end l.levels l.room l.initial.table l.initial.state l.initial.at l.initial.count l.initial.found
     l.table l.state l.at l.count l.found
 
-abbrev pub decreases-siblings-loop-number : goal.decreases-siblings-loop-number
-decreases-siblings-loop-number l = l.end - l.at
+abbrev pub decreases-siblings-loop-p : goal.decreases-siblings-loop-p
+decreases-siblings-loop-p l = l.end - l.at

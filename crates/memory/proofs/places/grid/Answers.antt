@@ -1,79 +1,51 @@
--- The grid agrees with the place rules, at all 72 places by one computed test.
-use mathlib.Core.Path.{◌≡◌, refl, sym, ap, ap₂, ◌∙◌}
-use mathlib.Core.Bool.{Bool}
+-- The grid agrees with the place rules: each of its rows, at each parent.
+use mathlib.Core.Path.{◌≡◌, refl, ap, ap₂, ◌∙◌}
 use mathlib.Core.List.{List, [], ◌∷◌}
-use Prim.Native.Nat.{ℕ, ◌+◌, ◌*◌, ◌/◌, ◌%◌, ◌<◌}
-use native.Mathlib.Omega.{arith}
-use borrow.Author.Tests.{eqb-true}
-use lib.Dec.{eqb}
+use Prim.Native.Nat.{ℕ}
 use lib.ListN.{get_or}
 use Rattle.laws.specs.Choice.{pick}
-use Rattle.laws.proofs.Table.{at_each}
+use Rattle.headers.specs.declared.kind.Kind.{Kind}
+use Rattle.headers.specs.declared.kind.Kind.TheVariants as kinds
+use Rattle.headers.specs.Kind.{id_of}
 use Rattle.memory.specs.declared.parent.Parent.{Parent}
 use Rattle.memory.specs.declared.parent.Parent.TheVariants.{Main, Bank, Layer, Selection, AlphaBank, Alpha}
 use Rattle.memory.specs.declared.places.Placing.{Placing}
-use Rattle.memory.specs.declared.places.Placing.TheVariants.{Refuse, Enter, Skip}
+use Rattle.memory.specs.declared.places.Placing.TheVariants.{Refuse}
+use Rattle.memory.specs.declared.places.TheConstants.{GRID}
 use Rattle.memory.specs.Parent.{column_of}
 use Rattle.memory.specs.Place.{grid_of}
 use Rattle.memory.proofs.places.grid.Goals as goal
 
-grid : List ℕ
-grid =
-    1 ∷ 0 ∷ 0 ∷ 0 ∷ 0 ∷ 0 ∷ 2 ∷ 0 ∷ 0 ∷ 0 ∷ 0 ∷ 0 ∷ 1 ∷ 0 ∷ 0 ∷ 0 ∷ 0 ∷ 0
-    ∷ 1 ∷ 0 ∷ 0 ∷ 0 ∷ 0 ∷ 0 ∷ 0 ∷ 1 ∷ 0 ∷ 0 ∷ 0 ∷ 0 ∷ 0 ∷ 0 ∷ 1 ∷ 1 ∷ 0 ∷ 1
-    ∷ 1 ∷ 0 ∷ 0 ∷ 0 ∷ 0 ∷ 0 ∷ 1 ∷ 0 ∷ 0 ∷ 0 ∷ 0 ∷ 0 ∷ 0 ∷ 0 ∷ 0 ∷ 0 ∷ 1 ∷ 0
-    ∷ 2 ∷ 0 ∷ 0 ∷ 0 ∷ 0 ∷ 0 ∷ 2 ∷ 0 ∷ 0 ∷ 0 ∷ 0 ∷ 0 ∷ 2 ∷ 0 ∷ 0 ∷ 0 ∷ 0 ∷ 0 ∷ []
+-- what the rules say of an id, in the order of the columns
+ruled : ℕ → List Placing
+ruled id = grid_of id Main ∷ grid_of id Bank ∷ grid_of id Layer ∷ grid_of id Selection ∷ grid_of id AlphaBank ∷ grid_of id Alpha ∷ []
 
--- what a number of the grid says, and the number that says it
-saying : Placing → ℕ
-saying Refuse = 0
-saying Enter = 1
-saying Skip = 2
+row : (k : Kind) → get_or GRID (id_of k) [] ≡ ruled (id_of k)
+unfolding ruled grid_of pick
+row kinds.Image = refl
+row kinds.Creator = refl
+row kinds.Palette = refl
+row kinds.Bank = refl
+row kinds.Layer = refl
+row kinds.Channel = refl
+row kinds.Selection = refl
+row kinds.AlphaBank = refl
+row kinds.Alpha = refl
+row kinds.Thumbnail = refl
+row kinds.Extended = refl
+row kinds.Tube = refl
 
-said : (p : Placing) (n : ℕ) → n ≡ saying p → (n ≡ 0 → p ≡ Refuse) × (n ≡ 1 → p ≡ Enter) × ((n ≡ 0 → ⊥) → (n ≡ 1 → ⊥) → p ≡ Skip)
-unfolding saying
-said Refuse n e = (λ _. refl, λ z. absurd (omega arith), λ z w. absurd (z e))
-said Enter n e = (λ z. absurd (omega arith), λ _. refl, λ z w. absurd (w e))
-said Skip n e = (λ z. absurd (omega arith), λ z. absurd (omega arith), λ _ _. refl)
+at_column : (id : ℕ) (p : Parent) → get_or (ruled id) (column_of p) Refuse ≡ grid_of id p
+unfolding ruled
+at_column id Main = refl
+at_column id Bank = refl
+at_column id Layer = refl
+at_column id Selection = refl
+at_column id AlphaBank = refl
+at_column id Alpha = refl
 
--- the parents, by their columns
-column : ℕ → Parent
-column n =
-    pick (eqb n 0) Main (pick (eqb n 1) Bank (pick (eqb n 2) Layer (pick (eqb n 3) Selection (pick (eqb n 4) AlphaBank Alpha))))
-
-column_of_lem : (p : Parent) → column (column_of p) ≡ p
-unfolding column pick
-column_of_lem Main = refl
-column_of_lem Bank = refl
-column_of_lem Layer = refl
-column_of_lem Selection = refl
-column_of_lem AlphaBank = refl
-column_of_lem Alpha = refl
-
-right : ℕ → ℕ → Bool
-right k x = eqb x (saying (grid_of (k / 6) (column (k % 6))))
-
--- the whole table, in one test that is computed
-rule : (k : ℕ) → k < 72 → get_or grid k 0 ≡ saying (grid_of (k / 6) (column (k % 6)))
-unfolding grid right saying column grid_of pick
-rule k h = eqb-true (get_or grid k 0) (saying (grid_of (k / 6) (column (k % 6)))) (at_each right grid refl k h)
-
-there : (id n : ℕ) (p : Parent) → id < 12 → n ≡ column_of p → n < 6 → get_or grid (id * 6 + n) 0 ≡ saying (grid_of id p)
-there id n p h e l =
-    rule (id * 6 + n) (omega arith)
-    ∙ ap₂ (λ (a b : ℕ). saying (grid_of a (column b))) (omega arith) (omega arith)
-    ∙ ap (λ (q : Parent). saying (grid_of id q)) (ap column e ∙ column_of_lem p)
-
-pub returns-in-0 : goal.returns-in-0
-unfolding grid
-returns-in-0 c = sym ((said _ _ ((there c.args.id c.column.result c.args.parent c.requires c.column.ensures.0 c.column.ensures.1))).0 c.in-0.is)
-
-pub returns-in-1 : goal.returns-in-1
-unfolding grid
-returns-in-1 c = sym ((said _ _ ((there c.args.id c.column.result c.args.parent c.requires c.column.ensures.0 c.column.ensures.1))).1 c.in-1.is)
-
-pub returns-in_default : goal.returns-in_default
-unfolding grid
-returns-in_default c =
-    let rest = c.in_default.in_default-own.rest in
-    sym ((said _ _ (there c.args.id c.column.result c.args.parent c.requires c.column.ensures.0 c.column.ensures.1)).2 rest.0.1 rest.1)
+pub returns : goal.returns
+returns c =
+    ap₂ (λ (id column : ℕ). get_or (get_or GRID id []) column Refuse) c.from.ensures c.column.ensures.0
+    ∙ ap (λ (cells : List Placing). get_or cells (column_of c.args.parent) Refuse) (row c.args.kind)
+    ∙ at_column (id_of c.args.kind) c.args.parent

@@ -1,34 +1,22 @@
--- `packer::equal::equal_beyond` meets its contract: near, or far behind whole blocks.
+-- Near, or far.
 use native.Mathlib.Omega.{arith}
 use Rattle.packer.specs.Packing.{other_than}
-use Rattle.packer.proofs.Reach.{reached, whole_near, whole_far, whole_before, clear_near, clear_join}
+use Rattle.packer.proofs.Places.{to_end}
+use Rattle.packer.proofs.Reach.{counted_on, counted_within}
+use Rattle.packer.proofs.Counted.{few_counted, few_clear}
 use Rattle.packer.proofs.equal.equal_beyond.Goals as goal
 
 pub returns-then-first-near : goal.returns-then-first-near
 returns-then-first-near c =
-    let near = c.near-near in
-    let a = c.args in
-    let other = other_than a.byte in
-    reached other a.plane.now _ a.at _
-    (whole_near other a.plane.now a.at _ _ near.ensures.0 near.ensures.1 c.other_byte-first.ensures c.if-first-near.true)
-
-pub other_byte-requires : goal.other_byte-requires
-other_byte-requires c = (c.equal_blocks-far.ensures.1, omega arith)
+    let first = c.before_other-first in
+    let counted = few_counted c.args.byte c.args.rest.now c.min-near.result first.result (omega arith) c.if-first-near.true first.ensures.before first.ensures.ended in
+    record { within = counted_within (other_than c.args.byte) c.args.rest.now _ counted; counted = counted }
 
 pub returns : goal.returns
 returns c =
-    let blocks = c.equal_blocks-far in
-    let near = c.near-near in
-    let a = c.args in
-    let p = a.plane.now in
-    let other = other_than a.byte in
-    let first = clear_near other p a.at _ _ near.ensures.0 near.ensures.1 c.other_byte-first.ensures c.if-first-near.false in
-    let last = whole_far other p blocks.result _ blocks.ensures.1 c.other_byte.ensures in
-    reached other p _ a.at _
-    (whole_before other p blocks.result _ last a.at (omega (arith, near.ensures.0, blocks.ensures.0)) (clear_join other p a.at near.result blocks.result first blocks.ensures.2))
-
-pub other_byte-first-requires : goal.other_byte-first-requires
-other_byte-first-requires c = c.near-near.ensures
-
-pub equal_blocks-far-requires : goal.equal_blocks-far-requires
-equal_blocks-far-requires c = c.near-near.ensures.1
+    let p = c.args.rest.now in
+    let n = c.min-near.result in
+    let other = other_than c.args.byte in
+    let near = c.before_other-first.ensures.before in
+    let counted = counted_on other p n c.equal_far.result (omega arith) (few_clear c.args.byte p n (λ k h. near k (omega arith))) (to_end p n) c.equal_far.ensures.counted in
+    record { within = counted_within other p _ counted; counted = counted }

@@ -1,31 +1,26 @@
--- `packer::equal::equal_blocks` meets its contract: one block more in each iteration.
+-- One block more in each iteration.
+use mathlib.Core.Path.{sym, ap, subst, ◌∙◌}
+use mathlib.Core.List.{List}
+use Prim.Native.Nat.{ℕ, ◌≤◌}
 use native.Mathlib.Omega.{arith}
+use lib.ListN.{length, get_or}
 use Rattle.packer.specs.Packing.{other_than}
-use Rattle.packer.proofs.Reach.{gone_first, gone_block}
+use Rattle.packer.proofs.Places.{other_front}
+use Rattle.packer.proofs.Reach.{Behind, behind_first, behind_more}
 use Rattle.packer.proofs.equal.equal_blocks.Goals as goal
 
-pub loop-to-init : goal.loop-to-init
-loop-to-init c = gone_first (other_than c.args.byte) c.args.plane.now _ _ c.requires
+pub loop-block-init : goal.loop-block-init
+loop-block-init c = behind_first (other_than c.args.byte) c.args.rest.now
 
-pub loop-to-preserved : goal.loop-to-preserved
-loop-to-preserved c =
+pub loop-block-preserved : goal.loop-block-preserved
+loop-block-preserved c =
     let a = c.args in
-    gone_block (other_than a.byte) a.plane.now _ _ c.loop-to.to 32 c.loop-to.invariant (omega (arith, c.loop-to.invariant.1, c.loop-to-test.true)) (c.all_equal.ensures (c.if-not-all_equal.false))
-
-pub overflow_sub-plane : goal.overflow_sub-plane
-overflow_sub-plane c = c.loop-to.invariant.1
-
-pub all_equal-requires : goal.all_equal-requires
-all_equal-requires c = omega (arith, c.loop-to.invariant.1, c.loop-to-test.true)
-
-pub returns-then-not-all_equal : goal.returns-then-not-all_equal
-returns-then-not-all_equal c = c.loop-to.invariant
-
-pub overflow_add-to : goal.overflow_add-to
-overflow_add-to c = omega (arith, c.loop-to-test.true)
-
-pub loop-to-smaller : goal.loop-to-smaller
-loop-to-smaller c = omega (arith, c.loop-to-test.true)
+    let left = c.loop-block.left.now in
+    let cases = c.in-Some.ensures.cases in
+    let long : 32 ≤ length left = omega (arith, cases.2) in
+    subst (Behind (other_than a.byte) a.rest.now) (sym cases.1)
+    (behind_more (other_than a.byte) a.rest.now left 32 c.loop-block.invariant long
+    (λ k h. other_front left 32 k a.byte h (ap (λ (l : List ℕ). get_or l k 0) (sym cases.0) ∙ c.all_equal.ensures c.if-not-all_equal.false k h)))
 
 pub returns : goal.returns
-returns c = c.loop-to.invariant
+returns c = record { within = omega arith; before = λ k below. c.loop-block.invariant.clear k (omega arith) below }

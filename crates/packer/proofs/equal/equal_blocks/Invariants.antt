@@ -1,12 +1,11 @@
--- `packer::equal::equal_blocks` meets its contract. The loop's invariant: no other byte has gone by.
-use Prim.Native.Nat.{◌-◌}
+-- The loop's invariant: what is left is behind bytes that are all this one.
 use lib.ListN.{length}
 use Rattle.packer.specs.Packing.{other_than}
-use Rattle.packer.proofs.Reach.{Gone}
+use Rattle.packer.proofs.Reach.{Behind}
 use Rattle.packer.proofs.equal.equal_blocks.Given as goal
 
-abbrev pub invariant-loop-to : goal.invariant-loop-to
-invariant-loop-to l = Gone (other_than l.byte) l.plane l.at (length l.plane) l.to
+abbrev pub invariant-loop-block : goal.invariant-loop-block
+invariant-loop-block l = Behind (other_than l.byte) l.rest l.left
 
-abbrev pub decreases-loop-to : goal.decreases-loop-to
-decreases-loop-to l = length l.plane - l.to
+abbrev pub decreases-loop-block : goal.decreases-loop-block
+decreases-loop-block l = length l.left

@@ -12,7 +12,7 @@ use Rattle.packer.proofs.form.fits.Goals as goal
 pub returns-then-n-room : goal.returns-then-n-room
 returns-then-n-room c =
     let a = c.args in
-    sym (le-leb (length (packed a.plane.now)) a.room (omega (arith, packed_bound a.plane.now, c.if-n-room.true)))
+    sym (le-leb (length (packed a.packets.rest.now)) a.room (omega (arith, packed_bound a.packets.rest.now, c.if-n-room.true)))
 
 pub returns : goal.returns
 returns c = ap (λ (n : ℕ). leb n c.args.room) c.measure.ensures

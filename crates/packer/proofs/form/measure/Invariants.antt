@@ -1,13 +1,6 @@
--- `packer::form::measure` meets its contract. The loop's invariant: what is measured and the packed form of the rest are as long as the
--- packed form; and what is ahead is known.
-use Prim.Native.Nat.{◌-◌}
-use lib.ListN.{length}
-use Rattle.packer.proofs.Ahead.{Known}
+-- The loop's invariant: what is measured and the packed form of the rest are as long as the packed form.
 use Rattle.packer.proofs.Packing.{Measuring}
 use Rattle.packer.proofs.form.measure.Given as goal
 
-abbrev pub invariant-loop-at : goal.invariant-loop-at
-invariant-loop-at l = Measuring l.plane l.at l.total × Known l.plane l.at l.ahead.from l.ahead.same
-
-abbrev pub decreases-loop-at : goal.decreases-loop-at
-decreases-loop-at l = length l.plane - l.at
+abbrev pub invariant-loop-piece : goal.invariant-loop-piece
+invariant-loop-piece l = Measuring l.fn.packets.rest.now l.piece-iterator.rest.now l.total

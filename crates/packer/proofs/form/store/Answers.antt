@@ -1,35 +1,41 @@
--- `packer::form::store` meets its contract, for each kind of packet.
-use mathlib.Core.Path.{◌≡◌, sym, ap, subst, ◌∙◌}
-use mathlib.Core.List.{List}
-use Prim.Native.Nat.{ℕ, ◌+◌, ◌≤◌}
-use lib.ListN.{length, drop}
+-- A packet as it is stored, of either kind.
+use mathlib.Core.Path.{◌≡◌, sym, ap, ◌∙◌}
+use mathlib.Core.List.{List, ◌∷◌, ◌++◌, append_assoc}
+use Prim.Native.Nat.{ℕ, ◌+◌, ◌-◌}
+use native.Mathlib.Omega.{arith}
+use lib.ListN.{length, take, drop}
+use lib.Seq.{take-length, drop-drop}
 use Rattle.packet.specs.declared.Packet.{Packet}
 use Rattle.laws.specs.Lists.{over}
+use Rattle.laws.proofs.Over.{over_cons, over_two}
 use Rattle.packet.specs.Stream.{size_of, count_of}
 use Rattle.packer.specs.Packing.{stored_as}
-use Rattle.laws.proofs.Over.{over_two}
-use Rattle.packer.proofs.Packing.{stored_literals}
 use Rattle.packer.proofs.form.store.Goals as goal
 
--- the contract's bounds, at the packet that the code found
-bounds :
-    (s d : List ℕ) (at done : ℕ) (p q : Packet) → p ≡ q
-    → (at + count_of p ≤ length s) × (done + size_of p ≤ length d) × (count_of p ≤ 127)
-    → (at + count_of q ≤ length s) × (done + size_of q ≤ length d) × (count_of q ≤ 127)
-bounds s d at done p q e = subst (λ (r : Packet). (at + count_of r ≤ length s) × (done + size_of r ≤ length d) × (count_of r ≤ 127)) e
+-- a copy of a whole slice into a part that is as long
+put_over : (l xs ys : List ℕ) (at : ℕ) → ys ≡ xs → take at l ++ (ys ++ drop (at + length xs - at) (drop at l)) ≡ over l at xs
+unfolding over
+put_over l xs ys at e =
+    let less : (n : ℕ) → at + n - at ≡ n = λ n. omega arith in
+    simp (e, less, append_assoc, drop-drop)
 
 pub returns-in-Literals : goal.returns-in-Literals
 returns-in-Literals c =
-    let a = c.args in
-    let found = c.in-Literals in
-    let b = bounds a.plane.now a.dest.now a.at a.done _ _ found.is c.requires in
-    stored_literals a.dest.now a.plane.now a.done a.at found.n _ _ c.wide.ensures.0 b.1 b.0 c.copy_over.ensures
-    ∙ ap (λ (q : Packet). over a.dest.now a.done (stored_as q (drop a.at a.plane.now))) (sym found.is)
+    let dest = c.args.dest.now in
+    let bytes = c.args.piece.bytes.now in
+    let n = c.in-Literals.n in
+    let count : count_of c.args.piece.packet ≡ n = ap count_of c.in-Literals.is in
+    let size : size_of c.args.piece.packet ≡ n + 1 = ap size_of c.in-Literals.is in
+    let long : length bytes ≡ n = c.requires.whole ∙ count in
+    let all : bytes ≡ take n bytes = sym (ap (λ (m : ℕ). take m bytes) (sym long) ∙ take-length bytes) in
+    put_over _ bytes _ 1 c.copy_from_slice.ensures.after
+    ∙ over_cons dest 0 n bytes (omega (arith, c.requires.room))
+    ∙ ap (λ (xs : List ℕ). over dest 0 (n ∷ xs)) all
+    ∙ ap (λ (q : Packet). over dest 0 (stored_as q bytes)) (sym c.in-Literals.is)
 
 pub returns-in-Run : goal.returns-in-Run
 returns-in-Run c =
-    let a = c.args in
-    let found = c.in-Run in
-    let b = bounds a.plane.now a.dest.now a.at a.done _ _ found.is c.requires in
-    over_two a.dest.now a.done _ _ b.1
-    ∙ ap (λ (q : Packet). over a.dest.now a.done (stored_as q (drop a.at a.plane.now))) (sym found.is)
+    let dest = c.args.dest.now in
+    let size : size_of c.args.piece.packet ≡ 2 = ap size_of c.in-Run.is in
+    over_two dest 0 _ _ (omega (arith, c.requires.room))
+    ∙ ap (λ (q : Packet). over dest 0 (stored_as q c.args.piece.bytes.now)) (sym c.in-Run.is)

@@ -1,39 +1,47 @@
--- `packer::form::store_all` meets its contract: the packet at each place lies inside the plane, has room, and is stored.
-use mathlib.Core.Path.{subst⁻¹}
-use Prim.Native.Nat.{ℕ, ◌+◌}
+-- Each packet has room, and is stored behind those before it.
+use mathlib.Core.Path.{◌≡◌, ap, ◌∙◌}
+use mathlib.Core.List.{List, [], ◌++◌, append-nil, append_assoc}
+use Prim.Native.Nat.{ℕ, ◌+◌, ◌-◌}
+use native.Mathlib.Nat.{zero-add}
 use native.Mathlib.Omega.{arith}
-use Rattle.packet.specs.Stream.{count_of}
-use Rattle.packer.proofs.Ahead.{Known}
+use lib.ListN.{length, take, drop, length-drop, drop_of_length-le}
+use lib.Seq.{drop-drop}
+use Rattle.laws.specs.Lists.{over}
+use Rattle.packer.proofs.Places.{to_end}
 use Rattle.packer.proofs.Packing.{onward, storing_room, storing_next, storing_last}
 use Rattle.packer.proofs.form.store_all.Goals as goal
 
 pub store-requires : goal.store-requires
 store-requires c =
-    let l = c.loop-at in
-    let on = onward _ _ _ c.loop-at-test.true c.next_at-next.ensures.packet_value in
-    (on.within, storing_room _ _ _ _ _ _ c.requires l.invariant.0 on, on.few)
+    let l = c.loop-piece in
+    let takes = c.in-Some.ensures.steps in
+    let on = onward takes in
+    let room = storing_room c.args.packets.rest.now c.args.dest.now l.dest l.done c.requires l.invariant takes in
+    record {
+      whole = on.long;
+      few = on.few;
+      room = omega (arith, ap length (to_end l.dest l.done), length-drop l.done l.dest, room);
+    }
 
-pub loop-at-smaller : goal.loop-at-smaller
-loop-at-smaller c =
-    let on = onward _ _ _ c.loop-at-test.true c.next_at-next.ensures.packet_value in
-    omega (arith, on.within, on.some, c.count-at.ensures)
+-- what is lent from a place on, with something over its front
+put_rest :
+    (l xs ys : List ℕ) (at : ℕ) → ys ≡ over (take (length l - at) (drop at l)) 0 xs
+    → take at l ++ (ys ++ drop (length l - at) (drop at l)) ≡ over l at xs
+unfolding over
+put_rest l xs ys at e =
+    let none : drop (length l - at) (drop at l) ≡ [] = drop_of_length-le (drop at l) (simp length-drop (omega arith)) in
+    let front : ys ≡ xs ++ drop (at + length xs) l =
+    e ∙ ap (λ (s : List ℕ). over s 0 xs) (to_end l at) ∙ simp (zero-add, drop-drop) in
+    simp (front, none, append-nil, append_assoc)
 
-pub loop-at-preserved : goal.loop-at-preserved
-loop-at-preserved c =
-    let p = c.args.plane.now in
-    let l = c.loop-at in
-    let r = c.next_at-next.result in
-    let next = c.next_at-next.ensures in
-    let on = onward p l.at r.packet c.loop-at-test.true next.packet_value in
-    let ahead : Known p (l.at + count_of r.packet) r.ahead.from r.ahead.same = (next.from_value_2, next.same_value_2) in (
-      storing_next p _ l.at l.done l.dest r.packet _ _ _ c.requires l.invariant.0 on c.count-at.ensures c.size-done.ensures c.store.ensures,
-      subst⁻¹ (λ (n : ℕ). Known p (l.at + n) r.ahead.from r.ahead.same) c.count-at.ensures ahead,
-    )
-
-pub shape_of-dest : goal.shape_of-dest
-shape_of-dest c = c.loop-at.invariant.0.written.long
+pub loop-piece-preserved : goal.loop-piece-preserved
+loop-piece-preserved c =
+    let l = c.loop-piece in
+    storing_next c.args.packets.rest.now c.args.dest.now l.dest l.done c.requires l.invariant c.in-Some.ensures.steps c.size-done.result _ c.size-done.ensures
+    (put_rest l.dest _ c.store.new.dest l.done c.store.ensures)
 
 pub returns : goal.returns
 returns c =
-    let all = storing_last _ _ _ _ _ c.loop-at.invariant.0 c.loop-at-test.false in
+    let l = c.loop-piece in
+    let all = storing_last c.args.packets.rest.now c.args.dest.now l.piece-iterator.rest.now l.done l.dest l.invariant c.in-None.ensures.steps.0 in
     record { r_value = all.0; dest_after = all.1 }

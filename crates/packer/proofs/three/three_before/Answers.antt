@@ -1,57 +1,70 @@
--- `packer::three::three_before` meets its contract: at once, at the third equal byte, behind each byte that goes by, and at the end.
-use mathlib.Core.Path.{subst⁻¹}
-use mathlib.Core.List.{List}
-use Prim.Native.Nat.{ℕ, ◌+◌}
+-- At once, at the third equal byte, behind each byte that goes by, and at the end.
+use mathlib.Core.Path.{◌≡◌, sym, ap, subst, ◌∙◌}
+use mathlib.Core.List.{List, ◌∷◌}
+use Prim.Native.Nat.{ℕ, ◌+◌, ◌<◌}
+use native.Mathlib.Numerals.{add-one}
 use native.Mathlib.Omega.{arith}
 use borrow.Author.Tests.{eq-eqb, eqb-true, eqb-false}
-use lib.ListN.{get_or}
+use lib.ListN.{take, get_or}
+use lib.Seq.{get_or-take, length-take-le}
 use Rattle.laws.proofs.Tests.{both, other_not}
-use Rattle.packer.proofs.Passing.{Passing, found_at_once, passing_first, passing_more, passing_other, passing_three, passing_end}
+use Rattle.packer.proofs.Passing.{Passing, passing_first, passing_more, passing_other, passing_three, passing_end}
 use Rattle.packer.proofs.three.three_before.Goals as goal
 use Rattle.packer.proofs.three.three_before.Goals.{then-equal, else-equal}
 
-pub returns-then-at-end : goal.returns-then-at-end
-returns-then-at-end c = found_at_once _ _ _ c.if-at-end.true
+-- the first byte, and those behind it
+module _ (p : List ℕ) (end : ℕ) {first : ℕ} {others : List ℕ} (e : take end p ≡ first ∷ others) where
+  first_is : 0 < end → get_or p 0 0 ≡ first
+  first_is h = sym (get_or-take end p 0 0 h) ∙ ap (λ (l : List ℕ). get_or l 0 0) e
 
-pub bounds-plane-at : goal.bounds-plane-at
-bounds-plane-at c = omega (arith, c.if-at-end.false, c.requires.0, c.requires.1)
+  other_is : (i : ℕ) → i + 1 < end → get_or p (i + 1) 0 ≡ get_or others i 0
+  other_is i h =
+      sym (get_or-take end p (i + 1) 0 h) ∙ ap (λ (l : List ℕ). get_or l (i + 1) 0) e ∙ ap (λ (n : ℕ). get_or (first ∷ others) n 0) (add-one i)
 
-pub overflow_add-to : goal.overflow_add-to
-overflow_add-to c = omega (arith, c.if-at-end.false, c.requires.0)
-
-pub loop-to-init : goal.loop-to-init
-loop-to-init c = passing_first _ _ _ c.if-at-end.false c.requires.0
-
-pub bounds-plane-to : goal.bounds-plane-to
-bounds-plane-to c = omega (arith, c.requires.1, c.loop-to-test.true)
-
-pub overflow_sub-result : goal.overflow_sub-result
-overflow_sub-result c = omega (arith, c.loop-to.invariant.above)
+pub loop-i-init : goal.loop-i-init
+loop-i-init c =
+    let p = c.args.rest.now in
+    let end = c.args.end in
+    let cases = c.in-Some.ensures.cases in
+    let some : 0 < end = omega (arith, cases.1, length-take-le end p c.requires) in
+    let P : ℕ → Type 0 = λ byte. Passing p 0 end byte 1 1 in
+    subst P (first_is p end cases.0 some) (passing_first p 0 end (λ none. omega arith) (omega arith))
 
 pub returns-then-equal-same : goal.returns-then-equal-same
 returns-then-equal-same c =
+    let p = c.args.rest.now in
+    let end = c.args.end in
+    let i = c.loop-i.i in
+    let cases = c.in-Some.ensures.cases in
+    let less : i + 1 < end = omega (arith, cases.1, length-take-le end p c.requires) in
     let t = both _ _ c.if-equal-same.true in
-    passing_three _ _ _ _ _ _ c.loop-to.invariant c.loop-to-test.true c.requires.1 (eqb-true _ _ t.0) (eqb-true _ _ t.1)
+    let found = passing_three p 0 end _ _ (i + 1) c.loop-i.invariant less c.requires (other_is p end cases.0 i less ∙ eqb-true _ _ t.0) (eqb-true _ _ t.1) in
+    record { within = found.1; before = λ k below. found.2 k (omega arith) below; found = found.3 }
 
--- one byte more has gone by
-abbrev Now : List ℕ → ℕ → ℕ → ℕ → ℕ → Type 0
-Now p at end to same = Passing p at end (get_or p to 0) same (to + 1)
-
-pub loop-to-preserved : goal.loop-to-preserved
-loop-to-preserved c =
-    let a = c.args in
-    let l = c.loop-to in
-    let more = c.loop-to-test.true in
+pub loop-i-preserved : goal.loop-i-preserved
+loop-i-preserved c =
+    let p = c.args.rest.now in
+    let end = c.args.end in
+    let l = c.loop-i in
+    let cases = c.in-Some.ensures.cases in
+    let less : l.i + 1 < end = omega (arith, cases.1, length-take-le end p c.requires) in
+    let other = other_is p end cases.0 l.i less in
+    let Now : ℕ → ℕ → Type 0 = λ byte same. Passing p 0 end byte same (l.i + 1 + 1) in
     elim c.if-equal.branch [
       | then-equal w ↦
           let e = w.if-equal.true in
-          subst⁻¹ (Now a.plane.now a.at a.end l.to) w.same-is (passing_more _ _ _ _ _ _ l.invariant more e (eqb-false _ _ (other_not _ _ c.if-equal-same.false (eq-eqb _ _ e))))
+          let twice = passing_more p 0 end _ _ (l.i + 1) l.invariant less (other ∙ e) (eqb-false _ _ (other_not _ _ c.if-equal-same.false (eq-eqb _ _ e))) in
+          subst (λ (byte : ℕ). Now byte c.if-equal.same) (other ∙ sym w.byte-is) (subst (Now (get_or p (l.i + 1) 0)) (sym w.same-is) twice)
       | else-equal w ↦
-          subst⁻¹ (Now a.plane.now a.at a.end l.to) w.same-is (passing_other _ _ _ _ _ _ l.invariant more w.if-equal.false)
+          let once = passing_other p 0 end _ _ (l.i + 1) l.invariant less (λ e. w.if-equal.false (sym other ∙ e)) in
+          subst (λ (byte : ℕ). Now byte c.if-equal.same) (other ∙ sym w.byte-is) (subst (Now (get_or p (l.i + 1) 0)) (sym w.same-is) once)
     ]
 
-pub overflow_sub-result-2 : goal.overflow_sub-result-2
-overflow_sub-result-2 c = omega (arith, c.loop-to.invariant.above)
-
 pub returns : goal.returns
-returns c = passing_end _ _ _ _ _ _ c.loop-to.invariant c.loop-to-test.false
+returns c =
+    let p = c.args.rest.now in
+    let end = c.args.end in
+    let i = c.loop-i.invariant in
+    let all : c.loop-i.i + 1 ≡ end = omega (arith, i.below, c.in-Some.ensures.cases.1, length-take-le end p c.requires) in
+    let found = passing_end p 0 end _ _ _ i (omega arith) in
+    record { within = omega arith; before = λ k below. found.2 k (omega arith) (omega (arith, i.few)); found = λ long. absurd (omega arith) }

@@ -13,10 +13,10 @@ pub record Going (s : List ℕ) (st : State) (first end room : ℕ) (t₀ : List
   pub here : stop ≤ length s
   pub near : stop ≤ end
   pub same : length t ≡ length t₀
-  pub passed : Channels s st first end room from t₀ (record { at = at; count = count; left = left; codes = codes }) t
+  pub passed : Channels s st first end room from t₀ (record { passed = record { at = at; count = count }; left = left; codes = codes }) t
 
-abbrev pub invariant-loop-st : goal.invariant-loop-st
-invariant-loop-st l = Going l.s l.st l.first l.end l.room l.initial.table l.from l.stop l.table l.at l.count l.left l.codes
+abbrev pub invariant-loop-c : goal.invariant-loop-c
+invariant-loop-c l = Going l.s l.st l.stretch.at l.stretch.end l.stretch.room l.initial.table l.stretch.count l.stop l.table l.at l.count l.left l.codes
 
-abbrev pub decreases-loop-st : goal.decreases-loop-st
-decreases-loop-st l = l.end - l.at
+abbrev pub decreases-loop-c : goal.decreases-loop-c
+decreases-loop-c l = l.stretch.end - l.at

@@ -18,13 +18,13 @@ loop-at-init c =
       here = c.reach-stop.ensures.0;
       near = c.reach-stop.ensures.1;
       same = refl;
-      passed = record { entries = []; goes = λ st begun. start; passable = empty; stores = none_stored _ _ _ _ _ c.requires.order c.requires.fits };
+      passed = record { entries = []; goes = λ st begun. start; passable = empty; stores = none_stored _ _ _ _ _ c.args.stretch.order c.args.stretch.fits };
     }
 
 pub loop-at-preserved : goal.loop-at-preserved
 loop-at-preserved c =
     let i = c.loop-at.invariant in
-    let p : PlainSkip c.args.s.now c.loop-at.at c.args.end c.args.levels c.args.asked c.decode-h.result = record {
+    let p : PlainSkip c.args.stretch.input.now c.loop-at.at c.args.stretch.end c.args.levels c.args.asked c.decode-h.result = record {
       marked = sym c.marked.ensures ∙ c.if-not-marked.false;
       passable = sym c.passable.ensures ∙ c.if-not-passable.false;
       there = omega (arith, c.if-stop-next.false, i.here);
@@ -38,39 +38,9 @@ loop-at-preserved c =
         entries = i.passed.entries ++ c.filled_entry-e.result ∷ [];
         goes = λ st begun.
             leaf_more (i.passed.goes st begun)
-            (skip_steps c.args.s.now st c.loop-at.at c.args.end c.args.levels c.args.asked begun c.decode-h.result c.decode-h.ensures p
+            (skip_steps c.args.stretch.input.now st c.loop-at.at c.args.stretch.end c.args.levels c.args.asked begun c.decode-h.result c.decode-h.ensures p
             c.filled_entry-e.result c.filled_entry-e.ensures);
         passable = all_more i.passed.passable (ap (λ (e : Entry). is_passable c.args.levels c.args.asked e.block.id) c.filled_entry-e.ensures ∙ p.passable);
-        stores = one_stored _ _ _ _ _ i.passed.stores c.if-count-room.false _ (omega arith) (omega (arith, c.if-stop-next.false, i.near)) c.filled_entry-e.result c.store.ensures;
+        stores = one_stored _ _ _ _ _ i.passed.stores c.if-count-stretch.false _ (omega arith) (omega (arith, c.if-stop-next.false, i.near)) c.filled_entry-e.result c.store.ensures;
       };
     }
-
-pub shape_of-table-then-not-marked : goal.shape_of-table-then-not-marked
-shape_of-table-then-not-marked c = c.loop-at.invariant.same
-
-pub returns-then-not-marked : goal.returns-then-not-marked
-returns-then-not-marked c = c.loop-at.invariant.passed
-
-pub shape_of-table-then-not-passable : goal.shape_of-table-then-not-passable
-shape_of-table-then-not-passable c = c.loop-at.invariant.same
-
-pub returns-then-not-passable : goal.returns-then-not-passable
-returns-then-not-passable c = c.loop-at.invariant.passed
-
-pub shape_of-table-then-stop-next : goal.shape_of-table-then-stop-next
-shape_of-table-then-stop-next c = c.loop-at.invariant.same
-
-pub returns-then-stop-next : goal.returns-then-stop-next
-returns-then-stop-next c = c.loop-at.invariant.passed
-
-pub shape_of-table-then-count-room : goal.shape_of-table-then-count-room
-shape_of-table-then-count-room c = c.loop-at.invariant.same
-
-pub returns-then-count-room : goal.returns-then-count-room
-returns-then-count-room c = c.loop-at.invariant.passed
-
-pub shape_of-table : goal.shape_of-table
-shape_of-table c = c.loop-at.invariant.same
-
-pub returns : goal.returns
-returns c = c.loop-at.invariant.passed

@@ -14,7 +14,7 @@ pub record Going (s : List ℕ) (first end levels asked room : ℕ) (t₀ : List
   pub passed : Skips s first end levels asked room from t₀ (record { at = at; count = count }) t
 
 abbrev pub invariant-loop-at : goal.invariant-loop-at
-invariant-loop-at l = Going l.s l.first l.end l.levels l.asked l.room l.initial.table l.from l.stop l.table l.at l.count
+invariant-loop-at l = Going l.s l.stretch.at l.stretch.end l.levels l.asked l.stretch.room l.initial.table l.stretch.count l.stop l.table l.at l.count
 
 abbrev pub decreases-loop-at : goal.decreases-loop-at
-decreases-loop-at l = l.end - l.at
+decreases-loop-at l = l.stretch.end - l.at

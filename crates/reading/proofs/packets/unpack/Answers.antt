@@ -1,14 +1,10 @@
--- `reading::packets::unpack` meets its contract: with no room, written by the second pass, and refused by the first.
-use mathlib.Core.Path.{◌≡◌, sym, ap, subst⁻¹, ◌∙◌}
-use Prim.Native.Nat.{ℕ}
-use native.Mathlib.Omega.{arith}
+-- `reading::packets::unpack` meets its contract: with no room, refused by the first pass, and written by the second.
+use mathlib.Core.Path.{sym, ap, ◌∙◌}
 use borrow.Author.Tests.{lt-ltb}
-use lib.ListN.{length}
-use lib.Seq.{length-take-le}
+use Rattle.std.specs.Prelude.{Ok, Err}
+use Rattle.std.proofs.lemmas.Result.{err_from_is_err_and}
 use Rattle.laws.proofs.Choice.{pick_yes}
-use Rattle.packet.specs.declared.told.Plane.{Plane}
-use Rattle.packet.specs.Stream.{meaning}
-use Rattle.packet.specs.Reading.{verdict, unpacked}
+use Rattle.packet.specs.Reading.{PlaneAnswer, left_by, unpacked}
 use Rattle.reading.proofs.Answers.{laid_front, unpacked_is, unpacked_refused}
 use Rattle.reading.proofs.packets.unpack.Goals as goal
 
@@ -16,21 +12,12 @@ pub returns-then-dest-plane : goal.returns-then-dest-plane
 unfolding unpacked
 returns-then-dest-plane c = sym (pick_yes _ _ _ (lt-ltb _ _ c.if-dest-plane.true))
 
-pub slice_bounds-write-end-then-told-eq0 : goal.slice_bounds-write-end-then-told-eq0
-slice_bounds-write-end-then-told-eq0 c = sym (length-take-le _ _ c.if-dest-plane.false)
+pub returns-in_err-read : goal.returns-in_err-read
+returns-in_err-read c =
+    let answer = err_from_is_err_and c.from_residual.result c.from_residual.ensures.1 in
+    ap (λ (r : PlaneAnswer). left_by r c.args.dest.now) (answer.1 ∙ ap Err answer.2)
+    ∙ unpacked_refused _ _ _ c.in_err-read.field-0.0 c.if-dest-plane.false c.in_err-read.ensures
 
-pub write-requires : goal.write-requires
-write-requires c =
-    let s = c.args.stream.now in
-    let good : c.told-told.result.number ≡ 0 = omega arith in
-    subst⁻¹ (λ (n : ℕ). (verdict (length s) n (meaning s n)).number ≡ 0) (length-take-le _ _ c.if-dest-plane.false)
-    (sym (ap (λ (p : Plane). p.number) (c.told-told.ensures ∙ c.test-answer.ensures)) ∙ good)
-
-pub returns-then-told-eq0 : goal.returns-then-told-eq0
-returns-then-told-eq0 c =
-    unpacked_is _ _ _ c.test-answer.result _ c.if-dest-plane.false c.test-answer.ensures (laid_front _ _ _ _ c.if-dest-plane.false c.write.ensures)
-
-pub returns-else-told-eq0 : goal.returns-else-told-eq0
-returns-else-told-eq0 c =
-    unpacked_refused _ _ _ c.test-answer.result c.if-dest-plane.false
-    (λ e. c.if-told-eq0.false (ap (λ (p : Plane). p.number) c.told-told.ensures ∙ e)) c.test-answer.ensures
+pub returns : goal.returns
+returns c =
+    unpacked_is _ _ _ (Ok c.in_ok-read.read) _ c.if-dest-plane.false c.in_ok-read.ensures (laid_front _ _ _ _ c.if-dest-plane.false c.write.ensures)

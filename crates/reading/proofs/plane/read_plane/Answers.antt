@@ -4,10 +4,9 @@ use mathlib.Core.List.{List}
 use Prim.Native.Nat.{ℕ, ◌+◌, ◌≤◌}
 use native.Mathlib.Omega.{arith}
 use lib.ListN.{length}
-use lib.Seq.{length-take-le}
-use Rattle.packet.specs.Reading.{good, unpacked}
+use Rattle.packet.specs.Reading.{filled, unpacked}
 use Rattle.laws.proofs.Part.{lent}
-use Rattle.packet.proofs.PlaneTests.{unknown_code, over_limit, outside, no_room, packets, raw, raw_length, copied_room, copied_front}
+use Rattle.packet.proofs.PlaneTests.{unknown_code, over_limit, outside, no_room, packets, raw, raw_length}
 use Rattle.reading.proofs.plane.read_plane.Goals as goal
 
 pub returns-then-code-gt1 : goal.returns-then-code-gt1
@@ -32,22 +31,14 @@ returns-then-code-eq1 c =
     ∙ ap (λ (l : List ℕ). unpacked l a.plane a.dest.now) (lent a.input.now a.start a.stored)
     ∙ sym (packets _ _ _ _ _ _ (omega arith) c.if-plane-gt-PLANE.false (omega arith) c.if-dest-plane.false c.if-code-eq1.true)
 
-pub slice_bounds-copy-end-then-stored-plane-2 : goal.slice_bounds-copy-end-then-stored-plane-2
-slice_bounds-copy-end-then-stored-plane-2 c = sym (length-take-le _ _ c.if-dest-plane.false)
-
-pub copy-requires : goal.copy-requires
-copy-requires c =
-    let a = c.args in
-    copied_room a.input.now a.start a.stored a.plane a.dest.now (omega arith) c.if-dest-plane.false c.if-stored-plane.true
-
 pub returns-then-stored-plane : goal.returns-then-stored-plane
 returns-then-stored-plane c =
-    let same = c.if-stored-plane.true in
-    let a = c.args in
-    let there : a.start + a.stored ≤ length a.input.now = omega arith in
-    (λ i. record { told = good a.stored a.plane; dest = copied_front a.input.now a.start a.stored a.plane a.dest.now _ there c.if-dest-plane.false same c.copy.ensures i })
-    ∙ sym (raw _ _ _ _ _ _ (omega arith) c.if-plane-gt-PLANE.false there c.if-dest-plane.false c.if-code-eq1.false same)
+    sym (raw_length _ _ _ _ _ _ (omega arith) c.if-plane-gt-PLANE.false (omega arith) c.if-dest-plane.false c.if-code-eq1.false c.if-stored-plane.true)
 
 pub returns : goal.returns
 returns c =
-    sym (raw_length _ _ _ _ _ _ (omega arith) c.if-plane-gt-PLANE.false (omega arith) c.if-dest-plane.false c.if-code-eq1.false c.if-stored-plane.false)
+    let a = c.args in
+    let there : a.start + a.stored ≤ length a.input.now = omega arith in
+    let part = c.copy_from_slice.ensures.after ∙ lent a.input.now a.start a.stored in
+    ap (λ (l : List ℕ). filled a.stored a.plane l a.dest.now) part
+    ∙ sym (raw _ _ _ _ _ _ (omega arith) c.if-plane-gt-PLANE.false there c.if-dest-plane.false c.if-code-eq1.false c.if-stored-plane.false)

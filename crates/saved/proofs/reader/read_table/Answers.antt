@@ -1,12 +1,13 @@
 -- `saved::reader::read_table` meets its contract: each refusal by its test, and the entries read.
 use mathlib.Core.Path.{◌≡◌, refl, sym, ap, ◌∙◌}
 use mathlib.Core.List.{List, ◌++◌}
-use Prim.Native.Nat.{ℕ, ◌+◌, ◌-◌, ◌*◌, ◌≤◌}
+use Prim.Native.Nat.{ℕ, ◌+◌, ◌-◌, ◌*◌, ◌/◌, ◌≤◌}
 use native.Mathlib.Omega.{arith}
-use lib.ListN.{length, drop}
+use lib.ListN.{length, take, drop}
+use Rattle.std.specs.Prelude.{Ok}
 use Rattle.entry.specs.Entry.{size}
-use Rattle.saved.specs.declared.reader.ReadAnswer.TheVariants.{Whole}
-use Rattle.saved.specs.Saved.{version_of, version_said, length_said, count_said, entries_of, found, read_result}
+use Rattle.saved.specs.Saved.{version_of, version_said, length_said, count_said, numbers_at, entries_of, found, read_result}
+use Rattle.saved.proofs.Form.{entries_behind, entries_got}
 use Rattle.saved.proofs.Tests.{read_short, read_other_length, read_other_version, read_other_count, read_other_sides, SavedTable, read_no_room, read_whole}
 use Rattle.saved.proofs.reader.read_table.Goals as goal
 
@@ -17,6 +18,12 @@ count_is file said count l n e = sym l ∙ e ∙ ap (λ (k : ℕ). 5 + 56 * k) n
 -- the version of as many entries as were counted is that of those found
 version_found : (file : List ℕ) (count right : ℕ) → count ≡ count_said file → right ≡ version_of (entries_of file count) → right ≡ version_of (found file)
 version_found file count right n e = e ∙ ap (λ (k : ℕ). version_of (entries_of file k)) n
+
+-- and the code has it of all that stands behind the head
+right_is :
+    (file : List ℕ) (count right : ℕ) → length file ≡ 9 + 56 * count
+    → (let lent = take (length file - 9) (drop 9 file) in right ≡ version_of (numbers_at (length lent / 4) lent 0)) → right ≡ version_of (entries_of file count)
+right_is file count right long e = e ∙ ap version_of (entries_behind file count long)
 
 is_saved :
     (file : List ℕ) (said count right : ℕ) → 9 ≤ length file → said ≡ length_said file → said ≡ length file - 4 → count ≡ count_said file
@@ -45,36 +52,29 @@ returns-then-length-count c =
     sym (read_other_count _ _ c.if-file-lt-HEAD.false (sym said ∙ c.if-length-file.false) c.if-version.false
     (λ e. c.if-length-count.true (said ∙ e ∙ ap (λ (n : ℕ). 5 + 56 * n) (sym c.u32_at-count.ensures.value))))
 
-pub version_in-right-requires : goal.version_in-right-requires
-version_in-right-requires c = omega arith
-
 pub returns-then-version-right : goal.returns-then-version-right
 returns-then-version-right c =
     let f = c.args.file.now in
     let said = c.u32_at-length.ensures.value in
     let counted = c.u32_at-count.ensures.value in
     sym (read_other_sides f _ c.if-file-lt-HEAD.false (sym said ∙ c.if-length-file.false) c.if-version.false (count_is f _ _ said counted c.if-length-count.false)
-    (λ e. c.if-version-right.true (e ∙ sym (version_found f _ _ counted c.version_in-right.ensures))))
+    (λ e. c.if-version-right.true (e ∙ sym (version_found f _ _ counted (right_is f c.u32_at-count.result c.version_of-right.result (omega arith) c.version_of-right.ensures)))))
 
 -- what the tests have found is found by tactics here, so that a test that stands elsewhere is refused for what it then leaves unknown
 pub returns-then-table-count : goal.returns-then-table-count
 returns-then-table-count c =
     let f = c.args.file.now in
     let measured : c.u32_at-length.result ≡ 5 + 56 * c.u32_at-count.result = omega arith in
-    let agreed : version_said f ≡ version_of (entries_of f c.u32_at-count.result) = cc in
+    let agreed : version_said f ≡ version_of (entries_of f c.u32_at-count.result) = cc (right_is f c.u32_at-count.result c.version_of-right.result (omega arith) c.version_of-right.ensures) in
     let saved = is_saved f _ _ _ c.if-file-lt-HEAD.false c.u32_at-length.ensures.value c.if-length-file.false c.u32_at-count.ensures.value measured refl agreed in
     sym (read_no_room _ _ saved (omega (arith, c.u32_at-count.ensures.value, c.if-table-count.true)))
-
-pub get_numbers-requires : goal.get_numbers-requires
-get_numbers-requires c =
-    (omega (arith, c.if-file-lt-HEAD.false, c.if-length-file.false, c.if-length-count.false), omega (arith, c.if-table-count.false))
 
 pub returns : goal.returns
 returns c =
     let f = c.args.file.now in
     let t = c.args.table.now in
     let counted = c.u32_at-count.ensures.value in
-    let saved = is_saved f _ _ _ c.if-file-lt-HEAD.false c.u32_at-length.ensures.value c.if-length-file.false counted c.if-length-count.false c.version_in-right.ensures c.if-version-right.false in
-    ap (read_result (Whole _)) c.get_numbers.ensures
-    ∙ ap (λ (n : ℕ). read_result (Whole n) (entries_of f n ++ drop (size * n) t)) counted
+    let saved = is_saved f _ _ _ c.if-file-lt-HEAD.false c.u32_at-length.ensures.value c.if-length-file.false counted c.if-length-count.false (right_is f c.u32_at-count.result c.version_of-right.result (omega arith) c.version_of-right.ensures) c.if-version-right.false in
+    ap (λ (now : List ℕ). read_result (Ok c.u32_at-count.result) (now ++ drop (size * c.u32_at-count.result) t)) (entries_got f t _ c.u32_at-count.result (omega (arith, c.if-table-count.false)) c.get_numbers.ensures)
+    ∙ ap (λ (n : ℕ). read_result (Ok n) (entries_of f n ++ drop (size * n) t)) counted
     ∙ sym (read_whole f t saved (omega (arith, counted, c.if-table-count.false)))

@@ -1,4 +1,4 @@
--- The lengths are asked first, so that the header may be read.
+-- The length is asked first, so that the header may be read.
 use mathlib.Core.Path.{sym, ap, ◌∙◌}
 use mathlib.Core.Bool.{◌&&◌}
 use native.Mathlib.Omega.{arith}
@@ -7,14 +7,8 @@ use Rattle.view.specs.At.{is_header_of}
 use Rattle.view.proofs.Here.{cut_short, by_header}
 use Rattle.view.proofs.at.is_block.Goals as goal
 
-pub returns-then-input-lt-SIZE : goal.returns-then-input-lt-SIZE
-returns-then-input-lt-SIZE c = sym (cut_short _ _ _ _ (omega arith))
-
-pub returns-then-left-size : goal.returns-then-left-size
-returns-then-left-size c = sym (cut_short _ _ _ _ (omega arith))
-
-pub returns-then-left-size-2 : goal.returns-then-left-size-2
-returns-then-left-size-2 c = sym (cut_short _ _ _ _ (omega arith))
+pub returns-then-input-saturating_add : goal.returns-then-input-saturating_add
+returns-then-input-saturating_add c = sym (cut_short _ _ _ _ (omega arith))
 
 pub returns : goal.returns
 returns c =

@@ -1,4 +1,0 @@
-use Rattle.layers.proofs.channel.awaited.Goals as goal
-
-pub returns : goal.returns
-returns c = cc

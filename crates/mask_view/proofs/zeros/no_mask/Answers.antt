@@ -1,4 +1,0 @@
-use Rattle.mask_view.proofs.zeros.no_mask.Goals as goal
-
-pub returns : goal.returns
-returns c = λ i. record { area = c.no_area.ensures i; bitmaps = 0; channels = 0 }

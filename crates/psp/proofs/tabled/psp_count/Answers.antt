@@ -1,5 +1,0 @@
-use mathlib.Core.Path.{◌∙◌}
-use Rattle.psp.proofs.tabled.psp_count.Goals as goal
-
-pub returns : goal.returns
-returns c = c.told.ensures ∙ c.count-outcome.ensures
