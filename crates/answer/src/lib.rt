@@ -51,6 +51,7 @@ pub struct Outcome {
 }
 
 // The same on paper.
+// Stays: a number beside values, as (a) C has no Result (psp.h).
 #[repr(C)]
 #[derive(Clone, Copy)]
 pub struct Told {

@@ -7,6 +7,7 @@ use entry::Entry;
 use pencil::Reply;
 
 // Whether the entry was found, 1 or 0; the final answer where it was not; the entry where it was. The other of the two is zeros.
+// Stays: a number beside values, as (a) C has no Result (psp.h).
 #[repr(C)]
 #[derive(Clone, Copy)]
 pub struct Asked {
@@ -15,6 +16,7 @@ pub struct Asked {
     pub entry: Entry,
 }
 
+// Stays: (d) a constant and no `Default`: its name says what the zeros mean.
 const NO_ANSWER: Told = Told {
     number: 0,
     place: 0,

@@ -4,9 +4,10 @@ use mathlib.Core.Logic.{inl, inr}
 use mathlib.Core.Bool.{true, false, ◌&&◌, ◌||◌}
 use Prim.Native.Nat.{ℕ, ◌<◌, ◌≤◌}
 use native.Mathlib.Omega.{arith}
-use borrow.Author.Tests.{eq-eqb, eqb-true, eqb-false, leb-true, leb-false}
+use borrow.Author.Tests.{eq-eqb, ne_eqb, eqb-true, eqb-false, leb-true, leb-false}
 use lib.Dec.{eqb, leb}
 use Rattle.laws.specs.Choice.{pick}
+use Rattle.laws.proofs.Choice.{pick_no}
 use Rattle.laws.proofs.Tests.{both, neither, other_not, one_of}
 use Rattle.headers.specs.declared.block_header.BlockHeader.{BlockHeader}
 use Rattle.attributes.specs.ImageAttributes.{image_size}
@@ -99,6 +100,12 @@ module _ {A : Type 0} (id : ℕ) (a b c d f g h e : A) where
   pub by_alpha : id ≡ 8 → by_id id a b c d f g h e ≡ h
   unfolding pick
   by_alpha z = ap (λ (i : ℕ). by_id i a b c d f g h e) z
+
+  pub by_other :
+      (id ≡ 0 → ⊥) → (id ≡ 2 → ⊥) → (id ≡ 3 → ⊥) → (id ≡ 4 → ⊥) → (id ≡ 6 → ⊥) → (id ≡ 7 → ⊥) → (id ≡ 8 → ⊥) → by_id id a b c d f g h e ≡ e
+  by_other i p k l s m n =
+      pick_no _ _ _ (ne_eqb id 0 i) ∙ pick_no _ _ _ (ne_eqb id 2 p) ∙ pick_no _ _ _ (ne_eqb id 3 k) ∙ pick_no _ _ _ (ne_eqb id 4 l)
+      ∙ pick_no _ _ _ (ne_eqb id 6 s) ∙ pick_no _ _ _ (ne_eqb id 7 m) ∙ pick_no _ _ _ (ne_eqb id 8 n)
 
 -- ### Lengths
 

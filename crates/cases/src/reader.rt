@@ -8,6 +8,7 @@ use std::io::{Read, Write};
 // No input has so many cases.
 const CASES: u64 = 1000000000000;
 
+// Stays: (d) a match that calls a function each: a table of functions would have the same lines, and the letter twice.
 fn answer(out: &mut impl Write, kind: u8, payload: &[u8]) -> io::Result<()> {
     match kind {
         b'L' => listed::listing(out, payload),

@@ -1,5 +1,6 @@
 // Numbers at a place of a file (document 000, section 4.2, whose names stand above each reader). Every number of artwork is little-endian. A
 // reader's contract says value and range, so that its callers need no proof of their own that a cast or a sum fits.
+// Stays: (a) a slice and a place: `Reads` says so of both, in these contracts and in every decoder's definition.
 
 #![tactic(auto)]
 

@@ -9,6 +9,7 @@ ghost use Rattle.entry.specs.Entry.{size, numbers_of, entry_at, stored};
 use rect::Size;
 
 // The block itself: its id, whether it is skipped (0 or 1), its nesting level, its header's place and the bytes that it owns.
+// Stays: id and `skipped` are numbers, as (a) they are the table's own, which C sees, and the id of a skipped block may be any.
 #[repr(C)]
 #[derive(Clone, Copy)]
 pub struct Block {

@@ -1,5 +1,6 @@
 // The first pass over a stream of packets: what its packets come to, with nothing written. In front, where stream and plane have room for any
 // packet, most tests are passed over; behind that every test is made.
+// Stays: (b) two loops, here and in crate laying: one loop that makes every test is below seven tenths of the decoder's speed (request xiii).
 
 #![tactic(auto)]
 

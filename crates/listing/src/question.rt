@@ -8,8 +8,8 @@ use entry::Entry;
 // The entries of an id that are skipped (1) or not (0), and the index-th of them.
 #[derive(Clone, Copy)]
 pub struct Question {
+    // Stays: (a) both are compared with the entry's own numbers, which C sees, and `question` of specs/ takes numbers.
     pub id: u32,
-    // Stays: (a) it is compared with the entry's own number, which C sees (`skipped` of psp_entry), and `question` of specs/ takes a number.
     pub skipped: u32,
     pub index: usize,
 }
@@ -23,6 +23,7 @@ pub struct Found {
 
 impl Question {
     // A question that a listing does not need answered.
+    // Stays: (d) a constant and no `Default`: its name says that nothing is asked.
     pub const IDLE: Question = Question {
         id: 0,
         skipped: 0,
@@ -38,6 +39,7 @@ impl Question {
 
 impl Found {
     // Before any entry.
+    // Stays: (d) a constant and no `Default`, as `Entry::NONE`.
     pub const NOTHING: Found = Found {
         count: 0,
         entry: Entry::NONE,

@@ -6,6 +6,7 @@ use chunk::alpha_information::AlphaChunk;
 use chunk::selection_information::SelectionChunk;
 use view::{NotShown, seek};
 
+// Stays: a number beside values, as (a) C has no Result (psp.h).
 #[repr(C)]
 #[derive(Clone, Copy)]
 pub struct SelectionFacts {
@@ -13,6 +14,7 @@ pub struct SelectionFacts {
     pub selection: SelectionChunk,
 }
 
+// Stays: a number beside values, as (a) C has no Result (psp.h).
 #[repr(C)]
 #[derive(Clone, Copy)]
 pub struct AlphaFacts {

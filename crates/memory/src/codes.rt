@@ -56,6 +56,7 @@ fn of_layer(depth: u16, bitmap: u16, channel: u16) -> bool
 }
 
 // By what holds the channel.
+// Stays: (a) the codes are two numbers here and in `Codes`, as `is_expected` has them and a file may have any.
 pub fn expected(parent: Parent, depth: u16, bitmap: u16, channel: u16) -> bool
     ensures { result ≡ is_expected parent depth bitmap channel }
 {
@@ -69,6 +70,7 @@ pub fn expected(parent: Parent, depth: u16, bitmap: u16, channel: u16) -> bool
 
 impl Codes {
     // No channel has come.
+    // Stays: (d) a constant and no `Default`: `State::START` is made of it, and a constant's value calls no function.
     pub const NONE: Codes = Codes {
         composite: false,
         red: false,

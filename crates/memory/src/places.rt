@@ -62,6 +62,7 @@ fn unused(st: State, kind: Kind) -> bool
 }
 
 // What becomes of a block of this id there.
+// Stays: (a) the id is a number, as `place_of` has it: an id that no kind has gets an answer too.
 #[tactic(auto, unfolding(crate::specs::Place::place_of, laws::specs::Choice::pick))]
 pub fn place(st: State, id: u16, parent: Parent) -> Placing
     ensures { result ≡ place_of st id parent }

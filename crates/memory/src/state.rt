@@ -93,6 +93,7 @@ impl Members {
 }
 
 impl Current {
+    // Stays: (d) a constant and no `Default`, as `Codes::NONE`.
     const NONE: Current = Current {
         number: 0,
         left: 0,
@@ -115,7 +116,7 @@ impl Current {
     }
 
     // A selection or an alpha channel has one saved rectangle.
-    // Stays: no plainer as an invariant of the chunk, which is read first and judged then.
+    // Stays: (d) no plainer as an invariant of the chunk, which is read first and judged then.
     fn by_mask(c: Mask, number: u32) -> Current
         requires { MaskRules c }
         ensures { result ≡ mask_by c number }
@@ -141,6 +142,7 @@ impl Current {
     }
 
     // The shape of a bitmap's planes in an image of this depth.
+    // Stays: (a) the bitmap is a number, as `shape_for` of specs/ has it, and a channel's may be any up to 5.
     #[tactic(auto, unfolding(crate::specs::State::shape_for, laws::specs::Choice::pick))]
     pub fn shape_for(self, depth: u16, bitmap: u16) -> Shape
         ensures { (result ≡ shape_for self depth bitmap) × (result.bits ≤ 8) }
@@ -162,7 +164,7 @@ impl Current {
 
 impl State {
     // Before any block.
-    // Stays: no plainer as a derived Default: the name says when it holds, and of `Open` no value is the one to begin with.
+    // Stays: (d) no plainer as a derived Default: the name says when it holds, and of `Open` no value is the one to begin with.
     pub const START: State = State {
         image: Announced {
             depth: 0,
@@ -228,7 +230,7 @@ impl State {
     }
 
     // One member of the open bank more.
-    // Stays: no plainer as an invariant: a bank that is complete has none left to find, so it is asked for where one comes.
+    // Stays: (d) no plainer as an invariant: a bank that is complete has none left to find, so it is asked for where one comes.
     fn with_member(mut self, current: Current) -> State
         requires { self.members.found < self.members.announced }
         ensures { result ≡ with_member current self }

@@ -23,6 +23,7 @@ fn all_equal(block: &[u8; 32], byte: u8) -> bool
 }
 
 // So many bytes at the front are all this one: block by block.
+// Stays: (d) apart from `plain_blocks`: here a block is a chunk of the plane, and there each block reaches into the next.
 fn equal_blocks(rest: &[u8], byte: u8) -> usize
     ensures within { result ≤ length rest.now }
     ensures before { (k : ℕ) → k < result → other_than byte (drop k rest.now) ≡ false }

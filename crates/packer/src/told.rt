@@ -5,6 +5,7 @@ ghost use Rattle.packer.specs.Packing.{refusal, paper};
 use crate::PackError;
 
 // The number, and the bytes of the packed form.
+// Stays: a number beside values, as (a) C has no Result (psp.h).
 #[repr(C)]
 #[derive(Clone, Copy)]
 pub struct Packed {

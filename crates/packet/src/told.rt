@@ -5,6 +5,7 @@ ghost use Rattle.packet.specs.Reading.{refusal, paper};
 use crate::{PlaneAnswer, PlaneError};
 
 // The number, the place inside the stored channel, and the bytes written.
+// Stays: a number beside values, as (a) C has no Result (psp.h).
 #[repr(C)]
 #[derive(Clone, Copy)]
 pub struct Plane {
@@ -13,6 +14,7 @@ pub struct Plane {
     pub bytes: usize,
 }
 
+// Stays: (d) a number as an argument, so that the numbers of `paper` stand in one column: by two conversions each error would be matched twice.
 fn refused(number: u32, place: usize) -> Plane
     ensures { result ≡ refusal number place }
 {

@@ -64,6 +64,7 @@ pub struct Paper {
 
 impl Paper {
     // Behind the file header.
+    // Stays: (d) a constant and no `Default`: the place is not 0.
     pub const FIRST: Paper = Paper {
         place: FileHeader::SIZE,
         inside: Inside::Nothing,

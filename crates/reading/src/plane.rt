@@ -8,7 +8,8 @@ use packet::{PlaneAnswer, PlaneError, Read};
 // The plane reader. The stored channel is the part of the input from `start` for `stored` bytes, read there without a copy; code 0 is raw
 // and code 1 run lengths. 24: no such code. 26: plane over the limit. 27: the stored part is not inside the input. 20: dest is shorter
 // than the plane. 25: a raw length that is not the plane's. 21, 22, 23: as of `unpack`. Unless all is well, dest is untouched.
-// Stays: (a) start and length of the part, not a slice of it: the export `psp_read_plane` has them so from C, and 27 is answered of them.
+// Stays: (a) start and length of the part, not a slice of it: the export `psp_read_plane` has them so from C, and 27 is answered of them. So is the code:
+// 24 is answered of any number that is not 0 or 1.
 pub fn read_plane(
     input: &[u8],
     start: usize,

@@ -27,6 +27,7 @@ pub struct Rect {
 impl Rect {
     pub const SIZE: usize = 16;
 
+    // Stays: with an offset, as (d) it is a part of a chunk, whose definition tells each place from the chunk's beginning.
     #[tactic(auto, unfolding(crate::specs::Rect::rect_at))]
     pub fn decode(file: &[u8], at: usize) -> Rect
         requires { at + Rect.SIZE ≤ length file.now }

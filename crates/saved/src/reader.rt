@@ -23,6 +23,7 @@ pub enum ReadError {
 }
 
 // The number, and the entries that were read.
+// Stays: a number beside values, as (a) C has no Result (psp.h).
 #[repr(C)]
 #[derive(Clone, Copy)]
 pub struct Restored {

@@ -20,6 +20,7 @@ pub enum WriteError {
 }
 
 // The number, and the bytes of the file.
+// Stays: a number beside values, as (a) C has no Result (psp.h).
 #[repr(C)]
 #[derive(Clone, Copy)]
 pub struct Saved {

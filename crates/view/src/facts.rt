@@ -16,6 +16,7 @@ use headers::file_header::FileHeader;
 // The image block comes first: its chunk stands behind the file header and its own header.
 pub const IMAGE: usize = FileHeader::SIZE + BlockHeader::SIZE;
 
+// Stays: a number beside values, as (a) C has no Result (psp.h).
 #[repr(C)]
 #[derive(Clone, Copy)]
 pub struct ImageFacts {
@@ -23,6 +24,7 @@ pub struct ImageFacts {
     pub image: ImageChunk,
 }
 
+// Stays: a number beside values, as (a) C has no Result (psp.h).
 #[repr(C)]
 #[derive(Clone, Copy)]
 pub struct LayerFacts {

@@ -7,6 +7,7 @@ use crate::not_shown::NotShown;
 // The bytes of a grey ramp: 256 entries of four.
 pub const RAMP: usize = 1024;
 
+// Stays: a number beside values, as (a) C has no Result (psp.h).
 #[repr(C)]
 #[derive(Clone, Copy)]
 pub struct Part {
