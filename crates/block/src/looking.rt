@@ -49,7 +49,7 @@ fn short(at: usize, end: usize, levels: usize) -> bool
     (levels != MAIN) & (end - at < BlockHeader::SIZE)
 }
 
-// Stays: (d) walk and pencil keep place, end and levels apart, so that a struct of them would be made anew for each call, here and in `look`.
+// Stays: (d) place, end and levels apart, as `edge_of` and `step_at` have them: the walk's `Stretch` also counts entries and has no levels.
 #[tactic(auto, unfolding(crate::specs::Edge::edge_of, laws::specs::Choice::pick))]
 pub fn edge_at(s: &[u8], st: State, at: usize, end: usize, levels: usize) -> Result<Edge, Stop>
     requires { at ≤ end }

@@ -16,7 +16,8 @@ impl From<PlaceError> for u32 {
     }
 }
 
-// 0, or the refusal's number. Stays: (d) no `From`: `Result` and `u32` are both foreign, so no crate may write it.
+// 0, or the refusal's number.
+// Stays: (d) no `From`: `Result` and `u32` are both foreign, so no crate may write it.
 pub fn number(answer: Result<(), PlaceError>) -> u32
     ensures { result ≡ place_paper answer }
 {

@@ -36,7 +36,7 @@ selection_facts_rules s room =
     (λ (x : Sought). (selection_facts_of s x).number ≡ 0 → MaskRules (selection_facts_of s x).selection.mask)
     (λ good there _. mask_rules 0 _ (selection_has s room there).permitted)
     (λ _ z. absurd (omega arith))
-    (λ e z. absurd (refused_not_zero e z))
+    (λ e _ z. absurd (refused_not_zero e z))
 
 pub alpha_facts_rules : (s : List ℕ) (room k : ℕ) → (alpha_facts s room k).number ≡ 0 → MaskRules (alpha_facts s room k).alpha.mask
 unfolding alpha_facts
@@ -45,7 +45,7 @@ alpha_facts_rules s room k =
     (λ (x : Sought). (alpha_facts_of s x).number ≡ 0 → MaskRules (alpha_facts_of s x).alpha.mask)
     (λ good there _. mask_rules 256 _ (alpha_has s room k there).permitted)
     (λ _ z. absurd (omega arith))
-    (λ e z. absurd (refused_not_zero e z))
+    (λ e _ z. absurd (refused_not_zero e z))
 
 pub selection_facts_one : OneResult selection-facts.Learnt
 selection_facts_one l a y z e f = one
@@ -67,7 +67,7 @@ pub alpha_name_part_one : OneResult alpha-name-part.Learnt
 alpha_name_part_one l a y z e f = one
 
 pub alpha_name_one : OneFixed (λ l r e. seen r) alpha-name.Learnt
-alpha_name_one l a y z e f = shown_one _ _ y z
+alpha_name_one l a y z e f = shown_one _ _ _ y z
 
 -- ### At a place
 

@@ -1,8 +1,9 @@
--- The packed form, packet by packet, and the loops that measure and store it.
+-- The packed form, packet by packet, what it measures, and the loop that stores it.
 use mathlib.Core.Path.{◌≡◌, refl, sym, ap, ap₂, ◌∙◌, subst}
 use mathlib.Core.Bool.{true, false, not}
 use mathlib.Core.List.{List, [], ◌∷◌, ◌++◌, append-nil, append_assoc}
 use Prim.Native.Nat.{ℕ, zero, suc, ◌+◌, ◌<◌, ◌≤◌}
+use native.Mathlib.Nat.{zero-add}
 use native.Mathlib.Omega.{arith}
 use borrow.Author.Tests.{eq-eqb, eqb-true, not-false, lt-ltb, le-ltb}
 use lib.Dec.{eqb, ltb}
@@ -17,7 +18,7 @@ use Rattle.packer.specs.Packing.{three, other_than, until, next_of, stored_as, p
 use Rattle.packer.specs.Pieces.{Takes}
 use Rattle.packer.specs.declared.packets.Piece.{Piece}
 use Rattle.limits.specs.Limits.{plane_limit}
-use Rattle.std.specs.Prelude.{Ok, Err}
+use Rattle.std.specs.Prelude.{Ok, Err, fold, sum_by}
 use Rattle.packer.specs.declared.PackError.TheVariants.{NoRoom, OverLimit}
 use Rattle.laws.proofs.Choice.{pick_yes, pick_no, pick_ind}
 use Rattle.laws.proofs.Tests.{never}
@@ -180,17 +181,65 @@ onward_length :
 onward_length {behind = behind} {p = p} on =
     ap length on.form ∙ length-append (stored_as p.packet p.bytes.now) (packed behind) ∙ ap (λ (n : ℕ). n + length (packed behind)) on.size
 
--- what is measured and the packed form of the rest are as long as the packed form
-abbrev pub Measuring : List ℕ → List ℕ → ℕ → Type 0
-Measuring plane rest total = length (packed plane) ≡ total + length (packed rest)
+-- the packets that stand for a plane
+unfoldable pub given_with : ℕ → List ℕ → List Packet
+given_with zero plane = []
+given_with (suc fuel) [] = []
+given_with (suc fuel) (b ∷ plane) = next_of (b ∷ plane) ∷ given_with fuel (drop (count_of (next_of (b ∷ plane))) (b ∷ plane))
 
-pub measuring_next :
-    (plane : List ℕ) {rest behind : List ℕ} {p : Piece} (total size : ℕ) → Measuring plane rest total → Takes rest p behind → size ≡ size_of p.packet
-    → Measuring plane behind (total + size)
-measuring_next plane total size m takes e = omega (arith, onward_length (onward takes))
+unfoldable pub given : List ℕ → List Packet
+given plane = given_with (length plane) plane
 
-pub measuring_last : (plane rest : List ℕ) (total : ℕ) → Measuring plane rest total → rest ≡ [] → total ≡ length (packed plane)
-measuring_last plane rest total m e = let none : length (packed rest) ≡ 0 = ap length (packed_end rest e) in omega arith
+given_steady : (f g : ℕ) (p : List ℕ) → length p ≤ f → length p ≤ g → given_with f p ≡ given_with g p
+unfolding given_with
+given_steady zero zero p hf hg = refl
+given_steady zero (suc g) [] hf hg = refl
+given_steady zero (suc g) (b ∷ p) hf hg = absurd (omega arith)
+given_steady (suc f) zero [] hf hg = refl
+given_steady (suc f) zero (b ∷ p) hf hg = absurd (omega arith)
+given_steady (suc f) (suc g) [] hf hg = refl
+given_steady (suc f) (suc g) (b ∷ p) hf hg =
+    let q = next_of (b ∷ p) in
+    let t = taken (chosen (b ∷ p) (omega arith)) in
+    ap (λ (r : List Packet). q ∷ r)
+    (given_steady f g (drop (count_of q) (b ∷ p)) (simp length-drop (omega (arith, t.some))) (simp length-drop (omega (arith, t.some))))
+
+given_on : (p : List ℕ) → 0 < length p → given p ≡ next_of p ∷ given (drop (count_of (next_of p)) p)
+unfolding given given_with
+given_on [] h = absurd (omega arith)
+given_on (b ∷ p) h =
+    let q = next_of (b ∷ p) in
+    let t = taken (chosen (b ∷ p) h) in
+    let rest = drop (count_of q) (b ∷ p) in
+    ap (λ (r : List Packet). q ∷ r)
+    (given_steady (length p) (length rest) rest (simp length-drop (omega (arith, t.some))) (omega arith))
+
+pub given_end : (p : List ℕ) → p ≡ [] → length (given p) ≡ 0
+unfolding given given_with
+given_end p e = ap (λ (l : List ℕ). length (given l)) e
+
+pub given_next : {rest behind : List ℕ} {p : Piece} → Takes rest p behind → given rest ≡ p.packet ∷ given behind
+given_next {rest} {behind} {p} takes =
+    given_on rest takes.some
+    ∙ ap (λ (q : Packet). q ∷ given (drop (count_of q) rest)) (sym takes.packet)
+    ∙ ap (λ (l : List ℕ). p.packet ∷ given l) (sym takes.left)
+
+-- and their sizes: the length of the packed form
+sizes_from : (n f : ℕ) (p : List ℕ) → fold (λ m q. m + size_of q) n (given_with f p) ≡ n + length (packed_with f p)
+unfolding given_with packed_with
+sizes_from n zero p = omega arith
+sizes_from n (suc f) [] = omega arith
+sizes_from n (suc f) (b ∷ p) =
+    let q = next_of (b ∷ p) in
+    let t = taken (chosen (b ∷ p) (omega arith)) in
+    let rest = drop (count_of q) (b ∷ p) in
+    let long : length (packed_with (suc f) (b ∷ p)) ≡ size_of q + length (packed_with f rest) =
+    length-append (stored_as q (b ∷ p)) (packed_with f rest) ∙ ap (λ (m : ℕ). m + length (packed_with f rest)) t.size in
+    sizes_from (n + size_of q) f rest ∙ omega (arith, long)
+
+pub sizes : (p : List ℕ) → sum_by size_of (given p) ≡ length (packed p)
+unfolding given packed
+sizes p = sizes_from 0 (length p) p ∙ zero-add (length (packed p))
 
 -- what is stored stands in front of the packed form of the rest
 pub record Storing (plane before rest : List ℕ) (done : ℕ) (dest : List ℕ) : Type 0 where

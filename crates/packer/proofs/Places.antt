@@ -103,18 +103,15 @@ module _ (l : List ℕ) (n k : ℕ) where
   pub other_front : (b : ℕ) → k < n → get_or (take n l) k 0 ≡ b → other_than b (drop k l) ≡ false
   other_front b h e = other_no b l k (sym (get_or-take n l k 0 h) ∙ e)
 
-  pub three_front : k + 3 ≤ n → n ≤ length l → three (drop k (take n l)) ≡ false → three (drop k l) ≡ false
-  three_front h inside f =
+  pub three_front : k + 3 ≤ n → n ≤ length l → three (drop k (take n l)) ≡ three (drop k l)
+  three_front h inside =
       let len : length (take n l) ≡ n = length-take-le n l inside in
-      let same : (i : ℕ) → i < n → get_or (take n l) i 0 ≡ get_or l i 0 = λ i. get_or-take n l i 0 in
-      yes_or_no (three (drop k l))
-      (λ t.
-      let bytes = three_bytes l k t in
-      let first = sym (same k (omega arith)) in
-      never
-      (sym f
-      ∙ three_same (take n l) k (omega arith) (same (k + 1) (omega arith) ∙ bytes.1 ∙ first) (same (k + 2) (omega arith) ∙ bytes.2 ∙ first)))
-      (λ no. no)
+      let one = get_or-take n l k 0 (omega arith) in
+      let two = get_or-take n l (k + 1) 0 (omega arith) in
+      let last = get_or-take n l (k + 2) 0 (omega arith) in
+      three_here (take n l) k (omega arith)
+      ∙ (λ i. pick (eqb (one i) (two i)) (eqb (two i) (last i)) false)
+      ∙ sym (three_here l k (omega arith))
 
 -- a part that goes to the end
 pub to_end : (l : List ℕ) (n : ℕ) → take (length l - n) (drop n l) ≡ drop n l

@@ -15,11 +15,7 @@ fn before_other(bytes: &[u8], byte: u8) -> usize
 fn all_equal(block: &[u8; 32], byte: u8) -> bool
     ensures { result ≡ true → (k : ℕ) → k < 32 → get_or block.now k 0 ≡ byte }
 {
-    let mut all = true;
-    for b in block {
-        all &= *b == byte;
-    }
-    all
+    block.iter().fold(true, |all, b| all & (*b == byte))
 }
 
 // So many bytes at the front are all this one: block by block.

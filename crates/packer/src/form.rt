@@ -14,11 +14,7 @@ fn measure(packets: Packets) -> usize
     requires { length packets.rest.now ≤ plane_limit }
     ensures { result ≡ length (packed packets.entry.rest.now) }
 {
-    let mut total = 0;
-    for piece in packets {
-        total += piece.packet.size();
-    }
-    total
+    packets.map(|piece| piece.packet.size()).sum()
 }
 
 // A packet goes into the front of dest, as it is stored.

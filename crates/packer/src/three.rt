@@ -1,16 +1,15 @@
 // Where three equal bytes start.
-ghost use Rattle.std.specs.Prelude.{◌≡◌, true, false, ℕ, ◌+◌, ◌<◌, ◌≤◌, length, drop};
+ghost use Rattle.std.specs.Prelude.{◌≡◌, true, false, ℕ, ◌+◌, ◌-◌, ◌<◌, ◌≤◌, length, drop};
 ghost use Rattle.packer.specs.Packing.{three, until};
 
-// The first place where three equal bytes start, all before `end`; if there is none, a place fewer than three bytes before `end`. One pass:
-// `same` carries how many equal bytes have just gone by.
-fn three_before(rest: &[u8], end: usize) -> usize
-    requires { end ≤ length rest.now }
-    ensures within { result ≤ end }
+// The first place where three equal bytes start; if there is none, the place two bytes before the end. One pass: `same` carries
+// how many equal bytes have just gone by.
+fn three_before(rest: &[u8]) -> usize
+    ensures within { result ≤ length rest.now - 2 }
     ensures before { (k : ℕ) → k < result → three (drop k rest.now) ≡ false }
-    ensures found { result + 3 ≤ end → three (drop result rest.now) ≡ true }
+    ensures found { result + 3 ≤ length rest.now → three (drop result rest.now) ≡ true }
 {
-    let Some((first, others)) = rest[..end].split_first() else {
+    let Some((first, others)) = rest.split_first() else {
         return 0;
     };
     let mut byte = *first;
@@ -23,7 +22,7 @@ fn three_before(rest: &[u8], end: usize) -> usize
         same = if equal { 2 } else { 1 };
         byte = *next;
     }
-    end.saturating_sub(2)
+    rest.len().saturating_sub(2)
 }
 
 // Whether three equal bytes start at a place. Without a branch, and neither test is made again by the next place.
@@ -54,7 +53,7 @@ fn plain_blocks(rest: &[u8]) -> usize
     ensures before { (k : ℕ) → k < result → three (drop k rest.now) ≡ false }
 {
     let mut to = 0;
-    // Stays: (d) a block is 18 bytes and the next begins 16 behind it: `windows` would give every place, and `chunks` no block that overlaps.
+    // Stays: (b) `windows(18).step_by(16)` was tried: with `take_while` a block takes 16 instructions, with `position` 15, and here 14.
     while to + 18 <= rest.len() && !any_three(rest, to) {
         to += 16;
     }
@@ -67,7 +66,7 @@ fn three_far(rest: &[u8]) -> usize
     ensures counted { result ≡ until (length rest.now) three rest.now }
 {
     let far = plain_blocks(rest);
-    let last = far + three_before(&rest[far..], rest.len() - far);
+    let last = far + three_before(&rest[far..]);
     if 3 <= rest.len() - last {
         last
     } else {
@@ -83,7 +82,7 @@ fn three_beyond(rest: &[u8]) -> usize
     ensures counted { result ≡ until (length rest.now) three rest.now }
 {
     let near = rest.len().min(8);
-    let first = three_before(rest, near);
+    let first = three_before(&rest[..near]);
     if 3 <= near - first {
         return first;
     }

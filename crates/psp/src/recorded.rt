@@ -12,8 +12,10 @@ fn fill(table: &[u32], count: usize, records: &mut [Entry])
     requires { (count * size ≤ length table.now) × (count ≤ length records.old) }
     ensures { records.new ≡ records_of table.now count records.old }
 {
-    for i in 0..count {
-        records[i] = Entry::read(table, i * Entry::SIZE);
+    // Stays: the index of the records, as (c) nothing is known of records that a zip's `iter_mut` writes.
+    let (entries, _) = table.as_chunks::<{ Entry::SIZE }>();
+    for (i, numbers) in entries[..count].iter().enumerate() {
+        records[i] = Entry::from(*numbers);
     }
 }
 

@@ -1,10 +1,11 @@
 -- What writing and reading leave, by the tests in their order.
 use mathlib.Core.Path.{◌≡◌, refl, sym, ap, ap₂, ◌∙◌}
-use mathlib.Core.Bool.{true, false, ◌||◌}
+use mathlib.Core.Bool.{true, false, not, ◌||◌, true≢false}
 use mathlib.Core.List.{List, ◌++◌}
 use Prim.Native.Nat.{ℕ, ◌+◌, ◌-◌, ◌*◌, ◌≤◌, ◌<◌}
 use native.Mathlib.Omega.{arith}
 use borrow.Author.Tests.{lt-ltb, le-ltb, eq-eqb, ne_eqb}
+use denote.Enum.Bare.{sameb}
 use lib.Dec.{ltb}
 use lib.ListN.{length, drop}
 use Rattle.std.specs.Prelude.{Ok, Err}
@@ -15,6 +16,10 @@ use Rattle.laws.proofs.Over.{over_front}
 use Rattle.entry.specs.Entry.{size}
 use Rattle.saved.specs.declared.writer.WriteError.TheVariants as write
 use Rattle.saved.specs.declared.reader.ReadError.TheVariants as read
+use Rattle.saved.specs.declared.sides.Version.{Version}
+use Rattle.saved.specs.declared.sides.Version.TheVariants.{First, Second}
+use Rattle.saved.specs.contracts.sides.Version.{the_type}
+use Rattle.saved.specs.Version.{number_of}
 use Rattle.saved.specs.Saved.{entries_in, following, saved_as, version_of, most_in_four, write_result, writes_as, length_said, version_said, count_said, found, is_other_version, read_result, restores, reads}
 use Rattle.saved.specs.Kept.{largest}
 use Rattle.saved.proofs.Form.{following_length, saved_length}
@@ -66,6 +71,24 @@ pub record SavedTable (file : List ℕ) : Type 0 where
   pub length_is : length_said file ≡ length file - 4
   pub count_is : length_said file ≡ 5 + 56 * count_said file
   pub version_is : version_said file ≡ version_of (found file)
+
+-- a version is one of the two
+pub known_version : (version : Version) (file : List ℕ) → number_of version ≡ version_said file → is_other_version file ≡ false
+known_version First file e = rw (sym e) refl
+known_version Second file e = rw (sym e) refl
+
+-- and two are one if their numbers are
+pub differ : (v w : Version) → not (sameb the_type v w) ≡ true → number_of v ≡ number_of w → ⊥
+differ First First p e = true≢false (sym p)
+differ Second Second p e = true≢false (sym p)
+differ First Second p e = absurd (omega (arith, e))
+differ Second First p e = absurd (omega (arith, e))
+
+pub agree : (v w : Version) → not (sameb the_type v w) ≡ false → number_of v ≡ number_of w
+agree First First p = refl
+agree Second Second p = refl
+agree First Second p = absurd (true≢false p)
+agree Second First p = absurd (true≢false p)
 
 -- a version that a table has is one of the two
 known : (file table : List ℕ) → version_said file ≡ version_of table → is_other_version file ≡ false

@@ -2,7 +2,7 @@
 ghost use Rattle.std.specs.Prelude.{◌≡◌, ◌*◌, ◌≤◌, length, Err};
 ghost use Rattle.saved.specs.Saved.{numbers_at, read_paper, read_result, reads};
 
-use crate::sides::{FIRST, InBytes, SECOND};
+use crate::sides::{InBytes, Version};
 use crate::{COUNTED, ENTRY, HEAD, sides};
 use endian::big;
 use entry::Entry;
@@ -62,8 +62,10 @@ fn get_numbers(bytes: &[u8], numbers: &mut [u32])
     requires { 4 * length numbers.old ≤ length bytes.now }
     ensures { numbers.new ≡ numbers_at (length numbers.old) bytes.now 0 }
 {
+    // Stays: the index of the fours, as (c) nothing is known of numbers that a zip's `iter_mut` writes.
+    let (fours, _) = bytes.as_chunks::<4>();
     for (i, number) in numbers.iter_mut().enumerate() {
-        *number = big::u32_at(bytes, 4 * i);
+        *number = u32::from_be_bytes(fours[i]);
     }
 }
 
@@ -80,10 +82,9 @@ pub fn read_table(file: &[u8], table: &mut [u32]) -> Result<usize, ReadError>
     if length != file.len() - 4 {
         return Err(ReadError::WrongLength);
     }
-    let version = file[4];
-    if (version < FIRST) | (SECOND < version) {
+    let Ok(version) = Version::try_from(file[4]) else {
         return Err(ReadError::WrongVersion);
-    }
+    };
     let count = big::u32_at(file, 5) as usize;
     if length != COUNTED + ENTRY * count {
         return Err(ReadError::WrongCount);

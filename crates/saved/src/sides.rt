@@ -1,15 +1,11 @@
 // The version of a table (document 02, request ix), by the sides of its entries, as they stand in a table or in a file.
 ghost use Rattle.std.specs.Prelude.{◌||◌, ◌≡◌, ℕ, ◌/◌, ◌<◌, List, ltb, length, get_or};
 ghost use Rattle.laws.specs.Choice.{pick};
+ghost use Rattle.saved.specs.Version.{number_of, IsVersionOf};
 ghost use Rattle.saved.specs.Saved.{old_side, version_of, numbers_at};
 
 use endian::big;
 use entry::Entry;
-
-// The versions: without a large side, and with one.
-pub(crate) const FIRST: u8 = 1;
-
-pub(crate) const SECOND: u8 = 2;
 
 // The greatest side that is not large.
 const SIDE: u32 = 4096;
@@ -18,6 +14,39 @@ const SIDE: u32 = 4096;
 const WIDTH: usize = 10;
 
 const HEIGHT: usize = 11;
+
+// The versions: without a large side, and with one. Its number is the byte that a file has.
+#[derive(Clone, Copy, PartialEq, Eq)]
+pub(crate) enum Version {
+    First = 1,
+    Second = 2,
+}
+
+// A byte that no version has.
+#[derive(Clone, Copy)]
+pub(crate) struct UnknownVersion(pub(crate) u8);
+
+impl TryFrom<u8> for Version {
+    type Error = UnknownVersion;
+
+    ghost try_from_gives = { IsVersionOf };
+
+    fn try_from(number: u8) -> Result<Self, UnknownVersion> {
+        match number {
+            1 => Ok(Version::First),
+            2 => Ok(Version::Second),
+            _ => Err(UnknownVersion(number)),
+        }
+    }
+}
+
+impl From<Version> for u8 {
+    ghost from_gives = { λ version number. number ≡ number_of version };
+
+    fn from(version: Version) -> u8 {
+        version as u8
+    }
+}
 
 // A side is large.
 fn is_large(width: u32, height: u32) -> bool
@@ -28,13 +57,13 @@ fn is_large(width: u32, height: u32) -> bool
 
 // The version by whether a side is large.
 #[tactic(auto, unfolding(laws::specs::Choice::pick))]
-fn version(large: bool) -> u8
-    ensures { result ≡ pick large 2 1 }
+fn first_or_second(large: bool) -> Version
+    ensures { number_of result ≡ pick large 2 1 }
 {
     if large {
-        return SECOND;
+        return Version::Second;
     }
-    FIRST
+    Version::First
 }
 
 // The numbers of a table, wherever they stand.
@@ -78,13 +107,13 @@ impl Numbers for InBytes<'_> {
 }
 
 // The version of a table's whole entries.
-pub(crate) fn version_of<N: Numbers>(table: &N) -> u8
-    ensures { result ≡ version_of (N.numbers table.now) }
+pub(crate) fn version_of<N: Numbers>(table: &N) -> Version
+    ensures { number_of result ≡ version_of (N.numbers table.now) }
 {
     let mut large = false;
     for i in 0..table.count() / Entry::SIZE {
         let at = i * Entry::SIZE;
         large |= is_large(table.number(at + WIDTH), table.number(at + HEIGHT));
     }
-    version(large)
+    first_or_second(large)
 }

@@ -56,6 +56,7 @@ fn put_numbers(numbers: &[u32], dest: &mut [u8])
     requires { 4 * length numbers.now ≤ length dest.old }
     ensures { dest.new ≡ over dest.old 0 (in_bytes numbers.now) }
 {
+    // Stays: a place of four times the index, as (c) nothing is known of bytes that a zip's `chunks_exact_mut` writes.
     for (i, number) in numbers.iter().enumerate() {
         big::put_u32(dest, 4 * i, *number);
     }
@@ -67,7 +68,7 @@ fn put_file(table: &[u32], count: usize, dest: &mut [u8])
     ensures { dest.new ≡ over dest.old 0 (saved table.now) }
 {
     big::put_u32(dest, 0, (COUNTED + ENTRY * count) as u32);
-    dest[4] = sides::version_of(&table);
+    dest[4] = u8::from(sides::version_of(&table));
     big::put_u32(dest, 5, count as u32);
     put_numbers(&table[..Entry::SIZE * count], &mut dest[HEAD..]);
 }

@@ -77,11 +77,14 @@ module _ {A : Type 0} (s : List ℕ) (room : ℕ) where
 
   -- what holds of a view of an accepted input, and of every refusal by the listing, holds of the view
   module _ (P : Result A NotShown → Type 0) (shown : Result A NotShown) where
-    by_answer : (a : Answer) → (is_accepted a ≡ true → P shown) → ((e : Stopped) → P (Err (Listing e))) → P (if_accepted shown a)
+    by_answer :
+        (a : Answer) → (is_accepted a ≡ true → P shown) → ((e : Stopped) → a ≡ Err e → P (Err (Listing e))) → P (if_accepted shown a)
     by_answer (Ok _) good bad = good refl
-    by_answer (Err e) good bad = bad e
+    by_answer (Err e) good bad = bad e refl
 
-    pub accepted_ind : (is_accepted (listed s room).answer ≡ true → P shown) → ((e : Stopped) → P (Err (Listing e))) → P (of_accepted s room shown)
+    pub accepted_ind :
+        (is_accepted (listed s room).answer ≡ true → P shown) → ((e : Stopped) → (listed s room).answer ≡ Err e → P (Err (Listing e)))
+        → P (of_accepted s room shown)
     unfolding of_accepted
     accepted_ind = by_answer (listed s room).answer
 
@@ -107,7 +110,7 @@ module _ (s : List ℕ) (room id : ℕ) (lacking : Lacking) (k : ℕ) where
       (P : Sought → Type 0)
       → (is_accepted (listed s room).answer ≡ true → is_there (question id 0 k) s room ≡ true → P (Ok (chunk_place (question id 0 k) s room)))
       → (is_accepted (listed s room).answer ≡ true → P (Err (Lacks lacking)))
-      → ((e : Stopped) → P (Err (Listing e))) → P (chunk_sought s room id lacking k)
+      → ((e : Stopped) → (listed s room).answer ≡ Err e → P (Err (Listing e))) → P (chunk_sought s room id lacking k)
   unfolding chunk_sought
   sought_ind P there missing other = accepted_ind s room P _ (λ good. pick_ind P _ _ _ (there good) (λ _. missing good)) other
 
@@ -116,4 +119,4 @@ module _ (s : List ℕ) (room id : ℕ) (lacking : Lacking) (k : ℕ) where
       {at : ℕ} → chunk_sought s room id lacking k ≡ Ok at → (is_there (question id 0 k) s room ≡ true) × (at ≡ chunk_place (question id 0 k) s room)
   sought_at {at} =
       sought_ind (λ (x : Sought). x ≡ Ok at → (is_there (question id 0 k) s room ≡ true) × (at ≡ chunk_place (question id 0 k) s room))
-      (λ _ there e. (there, cc)) (λ _ e. cc) (λ _ e. cc)
+      (λ _ there e. (there, cc)) (λ _ e. cc) (λ _ _ e. cc)

@@ -2,8 +2,10 @@
 use mathlib.Core.Path.{◌≡◌, refl, sym, ◌∙◌}
 use Prim.Native.Nat.{ℕ, ◌+◌, ◌-◌}
 use native.Mathlib.Omega.{arith}
-use lib.ListN.{take, drop}
+use lib.ListN.{take, drop, length}
+use lib.Seq.{take_all}
 use Rattle.laws.proofs.Part.{lent}
+use Rattle.laws.specs.Lists.{part}
 use Rattle.view.specs.Shown.{Slice, PartOf}
 
 -- `&s[start..start + n]`
@@ -12,6 +14,11 @@ taken s start n = record { ref_ptr = (s.ref_ptr.0, start + s.ref_ptr.1); now = t
 
 pub part_of : (s : Slice) (start n : ℕ) → PartOf s start n (taken s start n)
 part_of s start n = record { block = refl; place = omega arith; bytes = lent s.now start n }
+
+-- all of a slice of that length
+pub whole_of : (s : Slice) (n : ℕ) → length s.now ≡ n → PartOf s 0 n s
+unfolding part
+whole_of s n long = record { block = refl; place = omega arith; bytes = sym (take_all n s.now (omega (arith, long))) }
 
 -- one place, and the same bytes
 abbrev pub Same : Slice → Slice → Type 0

@@ -17,7 +17,7 @@ use Rattle.chunk.specs.Rules.{LayerRules}
 use Rattle.chunk.proofs.Rules.{layer_rules}
 use Rattle.view.specs.declared.not_shown.Lacking.TheVariants.{Layer}
 use Rattle.view.specs.declared.not_shown.NotShown.{NotShown}
-use Rattle.view.specs.declared.part.Part.{Part}
+use Rattle.view.specs.declared.shown.Shown.{Shown}
 use Rattle.view.specs.Asked.{layer_asked, palette_asked, is_there, chunk_place, Sought}
 use Rattle.view.specs.Facts.{image_told, layer_facts_of, image_facts, layer_facts}
 use Rattle.view.specs.Palette.{palette_seen, palette_view}
@@ -30,7 +30,7 @@ unfolding image_facts
 image_facts_rules s room =
     accepted_ind s room (λ (x : Result ImageChunk NotShown). (image_told x).number ≡ 0 → ImageRules (image_told x).image) _
     (λ good _. image_rules _ (accepted_has s room good).permitted)
-    (λ e z. absurd (refused_not_zero e z))
+    (λ e _ z. absurd (refused_not_zero e z))
 
 -- in an image of the depth that the image facts give
 pub layer_facts_rules :
@@ -43,15 +43,15 @@ layer_facts_rules s room k =
     let depth = ap (λ (x : Result ImageChunk NotShown). (image_told x).image.depth) (accepted_shown s room (Ok (image_at s image_chunk_place)) good) in
     subst⁻¹ (λ (d : ℕ). LayerRules d (layer_at s (chunk_place (layer_asked k) s room))) depth (layer_rules _ _ (layer_has s room k there).permitted))
     (λ _ z. absurd (omega arith))
-    (λ e z. absurd (refused_not_zero e z))
+    (λ e _ z. absurd (refused_not_zero e z))
 
 -- the ramp is shown for a grey image only
 pub ramp_grey : (s : List ℕ) (room ramp : ℕ) → (palette_view s room ramp).which ≡ 1 → (image_at s image_chunk_place).grey ≡ 1
 unfolding palette_view palette_seen
 ramp_grey s room ramp =
-    let P : Result Part NotShown → Type 0 = λ x. (part_told x).which ≡ 1 → (image_at s image_chunk_place).grey ≡ 1 in
+    let P : Result Shown NotShown → Type 0 = λ x. (part_told x).which ≡ 1 → (image_at s image_chunk_place).grey ≡ 1 in
     accepted_ind s room P _
     (λ good. pick_ind P (eqb (image_at s image_chunk_place).depth 24) _ _ (λ _ z. absurd (omega arith))
     (λ other. pick_ind P (is_there palette_asked s room) _ _ (λ _ z. absurd (omega arith))
     (λ none. pick_ind P (eqb ramp 1024) _ _ (λ _ _. accepted_grey s room good (eqb-false _ _ other) none) (λ _ z. absurd (omega arith)))))
-    (λ _ z. absurd (omega arith))
+    (λ _ _ z. absurd (omega arith))

@@ -7,7 +7,7 @@ use native.Mathlib.Omega.{arith}
 use borrow.Author.Tests.{eqb-true, eq-eqb, ne_eqb}
 use lib.Dec.{eqb}
 use lib.ListN.{length}
-use Rattle.std.specs.Prelude.{Result, Ok, Err, max}
+use Rattle.std.specs.Prelude.{Result, Ok, Err}
 use Rattle.laws.specs.Choice.{pick}
 use Rattle.laws.specs.Lists.{part}
 use Rattle.laws.specs.Outcomes.{OneResult, OneFixed}
@@ -21,11 +21,14 @@ use Rattle.chunk.specs.LayerInformation.{layer_size}
 use Rattle.view.specs.declared.not_shown.Lacking.TheVariants.{Layer}
 use Rattle.view.specs.declared.not_shown.NotShown.{NotShown}
 use Rattle.view.specs.declared.part.Part.{Part}
+use Rattle.view.specs.declared.shown.Shown.{Shown}
+use Rattle.view.specs.declared.shown.Shown.TheVariants.{Input, WholeRamp}
+use Rattle.view.specs.declared.shown.Span.{Span}
 use Rattle.view.specs.Asked.{palette_asked, is_there, Inside, Sought, layer_sought}
 use Rattle.view.specs.At.{layer_here, name_view_at}
-use Rattle.view.specs.Name.{name_at, name_seen, name_of, name_view}
-use Rattle.view.specs.Palette.{palette_entries, palette_seen, palette_view, lent_to}
-use Rattle.view.specs.Shown.{of_input, of_ramp, refusal, part_told, Slice, PartOf, ShownIn}
+use Rattle.view.specs.Name.{name_in, name_at, name_seen, name_of, name_view}
+use Rattle.view.specs.Palette.{palette_entries, palette_seen, palette_view}
+use Rattle.view.specs.Shown.{of_input, of_ramp, refusal, part_told, name_told, Slice, PartOf, ShownIn}
 use Rattle.view.proofs.Accepted.{palette_has, layer_inside}
 use Rattle.view.proofs.Asked.{accepted_ind}
 use Rattle.view.proofs.Here.{here_inside}
@@ -65,24 +68,40 @@ module _ (input ramp : ℕ) where
 seen_lies : (s : List ℕ) (room ramp : ℕ) → Lies (length s) ramp (part_told (palette_seen s room ramp))
 unfolding palette_seen
 seen_lies s room ramp =
-    let P : Result Part NotShown → Type 0 = λ x. Lies (length s) ramp (part_told x) in
+    let P : Result Shown NotShown → Type 0 = λ x. Lies (length s) ramp (part_told x) in
     let entries = palette_entries s room in
     accepted_ind s room P _
     (λ _. pick_ind P (eqb (image_at s image_chunk_place).depth 24) _ _ (λ _. none_lies (length s) ramp 43)
     (λ _. pick_ind P (is_there palette_asked s room) _ _ (λ there. input_lies (length s) ramp entries.start entries.stored (palette_has s room there).inside)
     (λ _. pick_ind P (eqb ramp 1024) _ _ (λ long. ramp_lies (length s) ramp (omega (arith, eqb-true ramp 1024 long))) (λ _. none_lies (length s) ramp 44))))
-    (λ e. none_lies (length s) ramp (stopped_number e))
+    (λ e _. none_lies (length s) ramp (stopped_number e))
 
 pub palette_lies : (s : List ℕ) (room ramp : ℕ) → Lies (length s) ramp (palette_view s room ramp)
 unfolding palette_view
 palette_lies s room ramp = seen_lies s room ramp
 
-pub palette_inside : (s : List ℕ) (room ramp : ℕ) (p : Part) → palette_seen s room ramp ≡ Ok p → Lies (length s) ramp p
-palette_inside s room ramp p is = subst (λ (x : Result Part NotShown). Lies (length s) ramp (part_told x)) is (seen_lies s room ramp)
+module _ (s : List ℕ) (room ramp : ℕ) where
+  by_seen : {x : Result Shown NotShown} → palette_seen s room ramp ≡ x → Lies (length s) ramp (part_told x)
+  by_seen is = subst (λ (x : Result Shown NotShown). Lies (length s) ramp (part_told x)) is (seen_lies s room ramp)
+
+  pub palette_inside : (span : Span) → palette_seen s room ramp ≡ Ok (Input span) → span.start + span.length ≤ length s
+  unfolding pick
+  palette_inside span is = (by_seen is).within
+
+  -- the ramp is shown by its own length alone
+  pub ramp_long : palette_seen s room ramp ≡ Ok WholeRamp → ramp ≡ 1024
+  unfolding palette_seen
+  ramp_long =
+      let P : Result Shown NotShown → Type 0 = λ x. x ≡ Ok WholeRamp → ramp ≡ 1024 in
+      accepted_ind s room P _
+      (λ _. pick_ind P (eqb (image_at s image_chunk_place).depth 24) _ _ (λ _ e. cc)
+      (λ _. pick_ind P (is_there palette_asked s room) _ _ (λ _ e. cc)
+      (λ _. pick_ind P (eqb ramp 1024) _ _ (λ long _. eqb-true ramp 1024 long) (λ _ e. cc))))
+      (λ _ _ e. cc)
 
 -- a name is always of the input, where the chunk that it begins lies inside
 pub named_lies : (s : List ℕ) (at : ℕ) → at + 256 ≤ length s → (name_at s at).start + (name_at s at).length ≤ length s
-unfolding name_at
+unfolding name_in
 named_lies s at inside = omega (arith, zero_most (part s at 256), part_length s at 256 inside)
 
 -- however the chunk was sought
@@ -90,9 +109,9 @@ pub name_of_lies : (s : List ℕ) (sought : Sought) → Inside 256 s sought → 
 name_of_lies s (Err e) inside = omega arith
 name_of_lies s (Ok place) inside = named_lies s place (inside place refl)
 
-pub name_inside : (s : List ℕ) (sought : Sought) (p : Part) → Inside 256 s sought → name_seen s sought ≡ Ok p → p.start + p.length ≤ length s
+pub name_inside : (s : List ℕ) (sought : Sought) (p : Span) → Inside 256 s sought → name_seen s sought ≡ Ok p → p.start + p.length ≤ length s
 name_inside s sought p inside is =
-    subst (λ (x : Result Part NotShown). (part_told x).start + (part_told x).length ≤ length s) is (name_of_lies s sought inside)
+    subst (λ (x : Result Span NotShown). (name_told x).start + (name_told x).length ≤ length s) is (name_of_lies s sought inside)
 
 pub name_lies : (s : List ℕ) (room k : ℕ) → (name_view s room k).start + (name_view s room k).length ≤ length s
 unfolding name_view
@@ -109,15 +128,15 @@ abbrev pub seen : Result Slice NotShown → Result ((ℕ × ℕ) × List ℕ) No
 seen (Ok r) = Ok (r.ref_ptr, r.now)
 seen (Err e) = Err e
 
-module _ (lent : Part → Slice) where
-  pub shown_is : {x : Result Part NotShown} {p : Part} {r : Slice} → x ≡ Ok p → PartOf (lent p) p.start p.length r → ShownIn lent x (Ok r)
-  shown_is {r} is shows = subst⁻¹ (λ (x : Result Part NotShown). ShownIn lent x (Ok r)) is shows
+module _ {A : Type 0} (lent : A → Slice) (span : A → Span) where
+  pub shown_is : {x : Result A NotShown} {p : A} {r : Slice} → x ≡ Ok p → PartOf (lent p) (span p).start (span p).length r → ShownIn lent span x (Ok r)
+  shown_is {r} is shows = subst⁻¹ (λ (x : Result A NotShown). ShownIn lent span x (Ok r)) is shows
 
-  pub refused_alike : {x : Result Part NotShown} {e : NotShown} → x ≡ Err e → ShownIn lent x (Err e)
-  refused_alike {e} is = subst⁻¹ (λ (x : Result Part NotShown). ShownIn lent x (Err e)) is refl
+  pub refused_alike : {x : Result A NotShown} {e : NotShown} → x ≡ Err e → ShownIn lent span x (Err e)
+  refused_alike {e} is = subst⁻¹ (λ (x : Result A NotShown). ShownIn lent span x (Err e)) is refl
 
   -- and these leave one outcome
-  pub shown_one : (x : Result Part NotShown) (r r' : Result Slice NotShown) → ShownIn lent x r → ShownIn lent x r' → seen r ≡ seen r'
+  pub shown_one : (x : Result A NotShown) (r r' : Result Slice NotShown) → ShownIn lent span x r → ShownIn lent span x r' → seen r ≡ seen r'
   shown_one (Ok p) (Ok r) (Ok r') a b = let same = part_one _ _ _ r r' a b in λ i. Ok (same.0 i, same.1 i)
   shown_one (Ok p) (Ok r) (Err e) a b = absurd b
   shown_one (Ok p) (Err e) r' a b = absurd a
@@ -125,35 +144,10 @@ module _ (lent : Part → Slice) where
   shown_one (Err e) (Err d) (Ok r) a b = absurd b
   shown_one (Err e) (Err d) (Err f) a b = ap Err (a ∙ sym b)
 
--- of two slices, the one that the part is of
-module _ (input ramp : Slice) (p : Part) where
-  pub is_ramp : p.which ≡ 1 → lent_to input ramp p ≡ ramp
-  is_ramp e = pick_yes _ _ _ (eq-eqb _ _ e)
-
-  pub is_input : (p.which ≡ 1 → ⊥) → lent_to input ramp p ≡ input
-  is_input other = pick_no _ _ _ (ne_eqb _ _ other)
-
-  pub lies_in : Lies (length input.now) (length ramp.now) p → p.start + p.length ≤ length (lent_to input ramp p).now
-  unfolding pick
-  lies_in lies = subst (λ (n : ℕ). p.start + p.length ≤ n) (sym (by (eqb p.which 1))) lies.within
-    where
-      by : (b : Bool) → length (pick b ramp input).now ≡ pick b (length ramp.now) (length input.now)
-      by true = refl
-      by false = refl
-
--- and it ends within the longer of the two
-pub lies_most : (input ramp : ℕ) (p : Part) → Lies input ramp p → p.start + p.length ≤ max input ramp
-unfolding pick
-lies_most input ramp p lies = by (eqb p.which 1) lies.within
-  where
-    by : (b : Bool) → p.start + p.length ≤ pick b ramp input → p.start + p.length ≤ max input ramp
-    by true h = omega arith
-    by false h = omega arith
-
 -- ### The palette
 
 pub palette_one : OneFixed (λ l r e. seen r) palette.Learnt
-palette_one l a y z e f = shown_one _ _ y z
+palette_one l a y z e f = shown_one _ _ _ y z
 
 pub palette_part_one : OneResult palette-part.Learnt
 palette_part_one l a y z e f = one
@@ -161,7 +155,7 @@ palette_part_one l a y z e f = one
 -- ### A name
 
 pub name_one : OneFixed (λ l r e. seen r) name.Learnt
-name_one l a y z e f = shown_one _ _ y z
+name_one l a y z e f = shown_one _ _ _ y z
 
 pub name_part_one : OneResult name-part.Learnt
 name_part_one l a y z e f = one

@@ -9,6 +9,7 @@ use crate::facts::LayerFacts;
 use crate::names::named;
 use crate::not_shown::{Lacking, NotShown};
 use crate::part::Part;
+use crate::shown::Span;
 use crate::viewed::{Named, Viewed};
 use chunk::layer_information::LayerChunk;
 use headers::block_header::BlockHeader;
@@ -59,7 +60,7 @@ pub fn read_at<C: Viewed>(input: &[u8], place: usize) -> Result<C, NotShown>
 }
 
 // Where the bytes of its name are.
-pub fn named_at<C: Named>(input: &[u8], place: usize) -> Result<Part, NotShown>
+pub fn named_at<C: Named>(input: &[u8], place: usize) -> Result<Span, NotShown>
     ensures { result ≡ name_seen input.now (chunk_at input.now place C.ID C.SIZE C.LACKING) }
 {
     let at = place_of::<C>(input, place)?;

@@ -11,6 +11,7 @@ mod names;
 mod not_shown;
 mod palette_view;
 mod part;
+mod shown;
 mod sought;
 mod viewed;
 
@@ -20,5 +21,6 @@ pub use names::{name, name_part, named, seek_name, show_name};
 pub use not_shown::{Lacking, NotShown};
 pub use palette_view::{palette, palette_part};
 pub use part::Part;
+pub use shown::{Shown, Span};
 pub use sought::{seek, seek_chunk};
 pub use viewed::{Named, Viewed};

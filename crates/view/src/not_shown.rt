@@ -18,6 +18,8 @@ pub enum Lacking {
     Selection,
     // 47
     Alpha,
+    // What a caller says of a kind of block that no view here shows: any number of its own.
+    Other(u32),
 }
 
 // What stopped the listing; or, of an accepted input, what it lacks.
@@ -53,6 +55,7 @@ impl From<Lacking> for u32 {
             Lacking::Layer => 45,
             Lacking::Selection => 46,
             Lacking::Alpha => 47,
+            Lacking::Other(number) => number,
         }
     }
 }

@@ -5,6 +5,7 @@ ghost use Rattle.view.specs.Palette.{palette_seen, palette_view, PaletteShown};
 use crate::facts::IMAGE;
 use crate::not_shown::{Lacking, NotShown};
 use crate::part::{Part, RAMP};
+use crate::shown::{Shown, Span};
 use attributes::image_attributes::ImageChunk;
 use headers::fields::Fields;
 use headers::kind::Kind;
@@ -17,7 +18,7 @@ const PALETTE: Question = Question {
 };
 
 // Where the listed palette's entries are, or that the ramp stands in for one.
-fn seek_palette(input: &[u8], room: usize, ramp: usize) -> Result<Part, NotShown>
+fn seek_palette(input: &[u8], room: usize, ramp: usize) -> Result<Shown, NotShown>
     ensures { result ≡ palette_seen input.now room ramp }
 {
     let seen = listing::seek(input, room, PALETTE);
@@ -29,10 +30,13 @@ fn seek_palette(input: &[u8], room: usize, ramp: usize) -> Result<Part, NotShown
     let found = seen.found;
     if 0 < found.count {
         let entries = found.entry.content;
-        return Ok(Part::of_input(entries.start as usize, entries.stored as usize));
+        return Ok(Shown::Input(Span {
+            start: entries.start as usize,
+            length: entries.stored as usize,
+        }));
     }
     if ramp == RAMP {
-        return Ok(Part::of_ramp());
+        return Ok(Shown::WholeRamp);
     }
     Err(Lacking::Ramp.into())
 }
@@ -53,7 +57,8 @@ pub fn palette<'a, 'b: 'a>(
 ) -> Result<&'a [u8], NotShown>
     ensures { PaletteShown input.entry room ramp.entry result }
 {
-    let part = seek_palette(input, room, ramp.len())?;
-    let lent = if part.which == 1 { ramp } else { input };
-    Ok(&lent[part.start..part.start + part.length])
+    match seek_palette(input, room, ramp.len())? {
+        Shown::Input(span) => Ok(span.of(input)),
+        Shown::WholeRamp => Ok(ramp),
+    }
 }

@@ -4,6 +4,7 @@ use Prim.Native.Nat.{ℕ, ◌*◌, ◌≤◌}
 use native.Mathlib.Nat.{mul-le-mul}
 use native.Mathlib.Omega.{arith}
 use lib.Dec.{eqb}
+use lib.ListN.{length}
 use Rattle.rect.specs.Rows.{is_form}
 use Rattle.canvas.proofs.placer.is_plane.Goals as goal
 
@@ -17,4 +18,4 @@ pub returns : goal.returns
 returns c =
     let a = c.args in
     ap₂ ◌&&◌ (c.is_form.ensures ∙ ap (λ (w : ℕ). is_form w 8 true a.row) c.width.ensures.0)
-    (ap (λ (h : ℕ). eqb a.length (a.row * h)) c.height.ensures.0)
+    (ap (λ (h : ℕ). eqb (length a.plane.now) (a.row * h)) c.height.ensures.0)

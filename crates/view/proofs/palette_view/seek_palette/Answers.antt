@@ -17,7 +17,7 @@ use Rattle.view.specs.declared.not_shown.Lacking.TheVariants.{Ramp}
 use Rattle.view.specs.declared.not_shown.NotShown.TheVariants.{Lacks}
 use Rattle.view.specs.Asked.{palette_asked, is_there}
 use Rattle.view.specs.Palette.{palette_seen}
-use Rattle.view.specs.Shown.{of_input, of_ramp}
+use Rattle.view.specs.declared.shown.Shown.TheVariants.{Input, WholeRamp}
 use Rattle.view.proofs.Accepted.{accepted_has}
 use Rattle.view.proofs.Asked.{went_on, told_on, is_there_lem, not_there, accepted_shown}
 use Rattle.view.proofs.palette_view.seek_palette.Goals as goal
@@ -25,7 +25,7 @@ use Rattle.view.proofs.palette_view.seek_palette.Goals as goal
 -- below depth 24 without a palette: by the ramp
 by_ramp :
     (s : List ℕ) (room ramp : ℕ) → is_accepted (listed s room).answer ≡ true → ((image_at s image_chunk_place).depth ≡ 24 → ⊥)
-    → is_there palette_asked s room ≡ false → palette_seen s room ramp ≡ pick (eqb ramp 1024) (Ok of_ramp) (Err (Lacks Ramp))
+    → is_there palette_asked s room ≡ false → palette_seen s room ramp ≡ pick (eqb ramp 1024) (Ok WholeRamp) (Err (Lacks Ramp))
 unfolding palette_seen
 by_ramp s room ramp ok below none = accepted_shown _ _ _ ok ∙ pick_no _ _ _ (ne_eqb _ _ below) ∙ pick_no _ _ _ none
 
@@ -50,7 +50,7 @@ returns-then-found-gt0 c =
     let ok = went_on _ _ c.seek-seen.ensures.0 c.in_ok-seen.was in
     let depth = ap (λ (x : ImageChunk). x.depth) c.decode-image.ensures in
     let found = c.seek-seen.ensures.1 in
-    ap Ok (c.of_input.ensures ∙ ap (λ (x : Found). of_input x.entry.content.start x.entry.content.stored) found)
+    ap (λ (x : Found). Ok (Input (record { start = x.entry.content.start; length = x.entry.content.stored }))) found
     ∙ sym (accepted_shown _ _ _ ok
     ∙ pick_no _ _ _ (ne_eqb _ _ (λ z. c.if-image-eq24.false (depth ∙ z)))
     ∙ pick_yes _ _ _ (is_there_lem palette_asked _ _ found c.if-found-gt0.true))
@@ -59,8 +59,7 @@ pub returns-then-ramp-eq-RAMP : goal.returns-then-ramp-eq-RAMP
 returns-then-ramp-eq-RAMP c =
     let ok = went_on _ _ c.seek-seen.ensures.0 c.in_ok-seen.was in
     let depth = ap (λ (x : ImageChunk). x.depth) c.decode-image.ensures in
-    ap Ok c.of_ramp.ensures
-    ∙ sym (by_ramp _ _ _ ok (λ z. c.if-image-eq24.false (depth ∙ z)) (not_there palette_asked _ _ c.seek-seen.ensures.1 c.if-found-gt0.false)
+    sym (by_ramp _ _ _ ok (λ z. c.if-image-eq24.false (depth ∙ z)) (not_there palette_asked _ _ c.seek-seen.ensures.1 c.if-found-gt0.false)
     ∙ pick_yes _ _ _ (eq-eqb _ _ c.if-ramp-eq-RAMP.true))
 
 pub returns : goal.returns
