@@ -1,6 +1,12 @@
 -- Any two results that a contract admits are equal. A leaf that also says a bound is fixed by its value.
+use mathlib.Core.Path.{◌≡◌, ap, ◌∙◌}
+use Prim.Native.Nat.{ℕ}
+use Rattle.std.specs.Prelude.{Option}
+use Rattle.std.specs.Option.{option_or}
 use Rattle.laws.specs.Outcomes.{OneResult}
 use Rattle.laws.proofs.OneOutcome.{one}
+use Rattle.attributes.specs.Fault.{unless_of}
+use Rattle.attributes.proofs.Earliest.{behind_fault}
 use Rattle.attributes.proofs.depth.bits.Reads as bits
 use Rattle.attributes.proofs.depth.channels.Reads as channels
 use Rattle.attributes.proofs.depth.full.Reads as full
@@ -30,6 +36,12 @@ image_judge_one l a y z e f = one
 
 pub unless_one : OneResult unless.Learnt
 unless_one l a y z e f = one
+
+-- whatever fault came before: by `or` it is kept, and of none this field is judged
+pub unless_behind :
+    (earlier : Option ℕ) (l : _) (a : _) (y : _) (e : _)
+    → unless.Learnt l a y e → option_or earlier y ≡ unless_of earlier a.0 a.1.0
+unless_behind earlier l a y e p = ap (option_or earlier) p ∙ behind_fault earlier a.0 a.1.0
 
 pub permitted_one : OneResult permitted.Learnt
 permitted_one l a y z e f = one

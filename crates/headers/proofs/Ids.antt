@@ -67,3 +67,10 @@ known id (Err e) is k names = absurd (omega (arith, id_below k))
 pub unknown : (id : ℕ) (r : Result Kind UnknownId) → IsKindOf id r → 12 ≤ id → IsErr r
 unknown id (Ok a) is high = absurd (omega (arith, id_below a))
 unknown id (Err e) is high = refl
+
+-- so of any two answers both are one
+pub kind_is_one : (id : ℕ) (y z : Result Kind UnknownId) → IsKindOf id y → IsKindOf id z → y ≡ z
+kind_is_one id (Ok a) (Ok b) p q = ap Ok (id_of_injective a b (p ∙ sym q))
+kind_is_one id (Ok a) (Err e) p q = absurd (omega (arith, id_below a))
+kind_is_one id (Err d) (Ok b) p q = absurd (omega (arith, id_below b))
+kind_is_one id (Err d) (Err e) p q = ap (λ (n : ℕ). Err (record { 0 = n })) (p.0 ∙ sym q.0)

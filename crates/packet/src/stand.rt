@@ -18,7 +18,7 @@ impl<'a> Stand<'a> {
 
     // Before the first packet.
     pub fn first(stream: &'a [u8], plane: usize) -> Self
-        ensures { (result.stream.now ≡ stream.now) × (result.plane ≡ plane) × (result.done ≡ 0) × (ahead result ≡ meaning stream.now plane) }
+        ensures { (result.stream.now ≡ stream.now) × (result.plane ≡ plane) × (result.done ≡ 0) × (ahead result ≡ meaning stream.now plane) × (result.at ≡ 0) }
     {
         Stand {
             stream,

@@ -39,7 +39,7 @@ pub fn show(out: &mut impl Write, input: &[u8]) -> io::Result<()> {
     )?;
     let (entries, _) = table.as_chunks::<{ Entry::SIZE }>();
     for (index, numbers) in entries.iter().take(told.count).enumerate() {
-        writeln!(out, "{index} {}", Line(Entry::from(*numbers)))?;
+        writeln!(out, "{index} {}", Line(Entry::read(numbers, 0)))?;
     }
     Ok(())
 }

@@ -1,19 +1,17 @@
 -- The file of a table: its length, its numbers one by one, and the loops that write and read them.
 use mathlib.Core.Path.{◌≡◌, refl, sym, ap, ap₂, subst, ◌∙◌}
 use mathlib.Core.List.{List, [], ◌∷◌, ◌++◌, reverse, append-nil, append_assoc}
-use Prim.Native.Nat.{ℕ, zero, suc, ◌+◌, ◌-◌, ◌*◌, ◌/◌, ◌^◌, ◌≤◌, ◌<◌}
+use Prim.Native.Nat.{ℕ, zero, suc, ◌+◌, ◌-◌, ◌*◌, ◌/◌, ◌≤◌, ◌<◌}
 use native.Mathlib.Nat.{zero-add}
 use native.Mathlib.Numerals.{add-one}
 use native.Mathlib.Omega.{arith}
 use lib.ListN.{length, take, drop, set, get_or, length-append, length-drop, drop_of_length-le}
 use lib.Seq.{take-suc, take_all, length-take-le, drop-drop}
-use Rattle.std.specs.Int.{w32, from_be_bytes}
-use Rattle.std.specs.Simd.{first_chunks}
 use Rattle.laws.specs.Lists.{part, over}
 use Rattle.laws.proofs.Over.{over_length, over_none, over_one, over_over, over_front}
 use Rattle.laws.proofs.Stored.{Stored, stored_next, stored_last}
 use Rattle.endian.specs.Number.{le, big_at, big_bytes_of}
-use Rattle.endian.proofs.Turned.{big_length, reads_be}
+use Rattle.endian.proofs.Turned.{big_length}
 use Rattle.entry.specs.Entry.{size}
 use Rattle.saved.specs.Saved.{entries_in, numbers_in, in_bytes, following, saved_as, numbers_at, entries_of}
 
@@ -174,23 +172,6 @@ entries_got file table now count room e =
     e
     ∙ ap₂ (λ (n : ℕ) (l : List ℕ). numbers_at n l 0) (length-take-le (size * count) table room) (lent_behind file 9)
     ∙ numbers_behind (size * count) 9 0 file
-
--- the i-th of the first fours of bytes
-four_is : (bytes d : List ℕ) (n i : ℕ) → i < n → get_or (first_chunks 4 n bytes) i d ≡ part bytes (4 * i) 4
-unfolding part
-four_is bytes d zero i low = absurd (omega arith)
-four_is bytes d (suc n) zero low = refl
-four_is bytes d (suc n) (suc i) low =
-    four_is (drop 4 bytes) d n i (omega arith)
-    ∙ ap (take 4) (drop-drop (4 * i) 4 bytes ∙ ap (λ (k : ℕ). drop k bytes) (omega arith))
-
--- and its number
-pub four_number :
-    (bytes d : List ℕ) (fours : List (List ℕ)) (n i m : ℕ) → fours ≡ first_chunks 4 (length bytes / 4) bytes → 4 * n ≤ length bytes → i < n
-    → m < 2 ^ 32 → m ≡ from_be_bytes w32 (get_or fours i d) → m ≡ big_at 4 bytes (4 * i)
-four_number bytes d fours n i m e long low small is =
-    let taken = ap (λ (l : List (List ℕ)). get_or l i d) e ∙ four_is bytes d (length bytes / 4) i (omega (arith, long, low)) in
-    (reads_be bytes (get_or fours i d) (4 * i) (omega (arith, long, low)) small taken is).value
 
 -- one number more
 pub get_next :

@@ -62,10 +62,9 @@ fn get_numbers(bytes: &[u8], numbers: &mut [u32])
     requires { 4 * length numbers.old ≤ length bytes.now }
     ensures { numbers.new ≡ numbers_at (length numbers.old) bytes.now 0 }
 {
-    // Stays: the index of the fours, as (c) nothing is known of numbers that a zip's `iter_mut` writes.
-    let (fours, _) = bytes.as_chunks::<4>();
+    // Stays: a place of four times the index, as (c) nothing is known of numbers that a zip's `iter_mut` writes.
     for (i, number) in numbers.iter_mut().enumerate() {
-        *number = u32::from_be_bytes(fours[i]);
+        *number = big::u32_at(bytes, 4 * i);
     }
 }
 

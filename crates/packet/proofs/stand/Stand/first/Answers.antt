@@ -7,7 +7,7 @@ use Rattle.packet.proofs.stand.Stand.first.Goals as goal
 
 pub returns : goal.returns
 unfolding meaning
-returns c = (refl, refl, refl, ap (meaning_from c.args.stream.now 0) all)
+returns c = (refl, refl, refl, ap (meaning_from c.args.stream.now 0) all, refl)
   where
     all : c.args.plane - 0 ≡ c.args.plane
     all = omega arith
