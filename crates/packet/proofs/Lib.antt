@@ -3,3 +3,4 @@ pub mod Stream
 pub mod FullPackets
 pub mod PlaneTests
 pub mod Promises
+pub mod OneOutcome

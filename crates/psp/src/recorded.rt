@@ -15,7 +15,7 @@ fn fill(table: &[u32], count: usize, records: &mut [Entry])
     // Stays: the index of the records, as (c) nothing is known of records that a zip's `iter_mut` writes.
     let (entries, _) = table.as_chunks::<{ Entry::SIZE }>();
     for (i, numbers) in entries[..count].iter().enumerate() {
-        records[i] = Entry::read(numbers, 0);
+        records[i] = Entry::from(*numbers);
     }
 }
 

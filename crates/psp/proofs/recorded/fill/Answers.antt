@@ -5,4 +5,4 @@ use Rattle.psp.proofs.recorded.fill.Goals as goal
 
 pub loop-i-preserved : goal.loop-i-preserved
 loop-i-preserved c =
-    records_next _ _ _ _ _ c.loop-i.invariant (c.read.ensures ∙ chunk_entry _ _ _ _ _ c.as_chunks.ensures.front c.as_chunks.ensures.front_len c.loop-i-test.true)
+    records_next _ _ _ _ _ c.loop-i.invariant (c.from.ensures ∙ chunk_entry _ _ _ _ _ c.as_chunks.ensures.front c.as_chunks.ensures.front_len c.loop-i-test.true)
